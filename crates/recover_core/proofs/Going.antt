@@ -79,7 +79,7 @@ pub incarnation_both : (incarnation : ℕ) (a b : List Entry) → incarnation_be
 incarnation_both incarnation [] b = refl
 incarnation_both incarnation (entry ∷ a) b = incarnation_both (entry.incarnation + 1) a b
 
-incarnations_both : (a b : List Entry) → incarnations_in (a ++ b) ≡ incarnations_in a ++ incarnations_in b
+pub incarnations_both : (a b : List Entry) → incarnations_in (a ++ b) ≡ incarnations_in a ++ incarnations_in b
 incarnations_both a b = map-append (λ (e : Entry). e.incarnation) a b
 
 pub log_taken : (steps : List Step) (done : List Entry) (log : Option OpenedLog) (entry : read.Entry) (behind_it : EntryReader) → IsLog steps done log (Waits entry behind_it) → IsLog steps (done ++ entry_of entry ∷ []) log (More behind_it)
@@ -182,6 +182,10 @@ pub record InLoop (flows : Flows) (count : ℕ) (steps : List Step) (place : ℕ
   pub still : IsStill flows count (now place) course.comes
   pub none : moved ≡ false → entries ≡ []
 
+pub commits_both : (place : ℕ) (a b : List Entry) → commits_at place (a ++ b) ≡ commits_at place a ++ commits_at place b
+commits_both place [] b = refl
+commits_both place (entry ∷ a) b = ap (λ (l : List Commit). record { partition = place; entry = entry } ∷ l) (commits_both place a b)
+
 module _ (flows : Flows) (count : ℕ) (steps : List Step) (place : ℕ) (done : List Entry) (old : ℕ → Partition) where
   pub none_yet : (course : Course) → IsCourse steps done course → IsChain flows count place done old → IsStill flows count (old place) course.comes → InLoop flows count steps place done old old course false
   none_yet course is chain still = record {
@@ -192,10 +196,6 @@ module _ (flows : Flows) (count : ℕ) (steps : List Step) (place : ℕ) (done :
     still = still;
     none = λ same. refl;
   }
-
-  commits_both : (a b : List Entry) → commits_at place (a ++ b) ≡ commits_at place a ++ commits_at place b
-  commits_both [] b = refl
-  commits_both (entry ∷ a) b = ap (λ (l : List Commit). record { partition = place; entry = entry } ∷ l) (commits_both a b)
 
   -- one entry more
   pub one_more : (now new : ℕ → Partition) (was read_it course : Course) (moved : Bool) (so_far : InLoop flows count steps place done old now was moved) → IsCourse steps (done ++ so_far.entries) read_it
@@ -209,7 +209,7 @@ module _ (flows : Flows) (count : ℕ) (steps : List Step) (place : ℕ) (done :
       record {
         entries = entries;
         made =
-            ap (states_after flows count old) (commits_both so_far.entries (entry ∷ []))
+            ap (states_after flows count old) (commits_both place so_far.entries (entry ∷ []))
             ∙ put_then flows count old now new (commits_at place so_far.entries) (commits_at place (entry ∷ [])) so_far.made
             (ap (option_and_then (λ (next : Partition). Some (with_part now place next))) takes.accepted ∙ ap (λ (f : ℕ → Partition). Some f) (sym takes.states));
         course_is = subst (λ (l : List Entry). IsCourse steps l course) same takes.course_is;

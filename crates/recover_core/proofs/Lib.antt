@@ -7,6 +7,7 @@ pub mod LogsEnded
 pub mod LogsPlaced
 pub mod LogsWhole
 pub mod NextTried
+pub mod PlacedAnyway
 pub mod PlacedAt
 pub mod Pushed
 pub mod Rounded

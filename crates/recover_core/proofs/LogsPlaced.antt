@@ -131,26 +131,27 @@ begun_ready states courses all many is fits = record { all = all; many = many; e
 ended_counts : (p : Partition) (course : Course) (life : Life) → FitsCourse p course → IsEndOf course life → Counts p course
 ended_counts p course life fits ends = fits.counts (ap is_refused ends.ended)
 
+-- the course of which a life is kept
+pub life_course : (courses : List Course) (lives : List Life) → AreEndsOf courses lives → (partition : ℕ) (life : Life) → slice_get lives partition ≡ Some life → (course : Course) × (slice_get courses partition ≡ Some course)
+life_course courses lives ends partition life at = by (slice_get courses partition) refl
+  where
+    by : (found : Option Course) → slice_get courses partition ≡ found → (course : Course) × (slice_get courses partition ≡ Some course)
+    by (Some course) is = (course, is)
+    by None is =
+        let inside = slice_get_within lives partition life at in
+        let long = ends.many in
+        absurd (not_past courses partition (omega (arith, inside, long)) is)
+
 pub can_go_on : (count : ℕ) (opened : Opened) (courses : List Course) → AreReady opened.states.items courses → length opened.states.items ≡ count → AreEndsOf courses opened.lives.items → CanGoOn count opened
 can_go_on count opened courses ready many ends = record {
   all = ready.all;
   many = many;
   lives = ends.many ∙ ready.many ∙ many;
-  counted = λ partition life at. let one = course_for partition life at in let is = ends.each partition one.0 life one.1 at in
+  counted = λ partition life at. let one = life_course courses opened.lives.items ends partition life at in let is = ends.each partition one.0 life one.1 at in
       (ended_counts (parts_in opened.states.items partition) one.0 life (ready.each partition one.0 one.1) is).counted ∙ ap (λ (l : List ℕ). length l) (sym is.past);
-  younger = λ partition life at. let one = course_for partition life at in let is = ends.each partition one.0 life one.1 at in
+  younger = λ partition life at. let one = life_course courses opened.lives.items ends partition life at in let is = ends.each partition one.0 life one.1 at in
       subst (λ (n : ℕ). (parts_in opened.states.items partition).incarnation ≤ n) (sym is.incarnation) (ended_counts (parts_in opened.states.items partition) one.0 life (ready.each partition one.0 one.1) is).younger;
 }
-  where
-    course_for : (partition : ℕ) (life : Life) → slice_get opened.lives.items partition ≡ Some life → (course : Course) × (slice_get courses partition ≡ Some course)
-    course_for partition life at = by (slice_get courses partition) refl
-      where
-        by : (found : Option Course) → slice_get courses partition ≡ found → (course : Course) × (slice_get courses partition ≡ Some course)
-        by (Some course) is = (course, is)
-        by None is =
-            let inside = slice_get_within opened.lives.items partition life at in
-            let long = ends.many in
-            absurd (not_past courses partition (omega (arith, inside, long)) is)
 
 -- a log that ended rests in its file
 rests_at : (asked : Asked) (steps : List Step) (done : List Entry) (log : Option OpenedLog) (end : Option Resting) → IsChosen asked steps log → IsLog steps done log (End end) → IfSome end (RestsFor steps asked (logs_here asked steps))
@@ -212,7 +213,7 @@ module _ (flows : Flows) (count digest : ℕ) (steps : List Step) (first : List 
 
   module _ (courses : List Course) (same_many : length courses ≡ length first) (all : AllRead steps (logs_of first) courses) where
     -- the course of each partition
-    course_at : (partition : ℕ) → partition < count → (course : Course) × (slice_get courses partition ≡ Some course)
+    pub course_at : (partition : ℕ) → partition < count → (course : Course) × (slice_get courses partition ≡ Some course)
     course_at partition below = by (slice_get courses partition) refl
       where
         by : (found : Option Course) → slice_get courses partition ≡ found → (course : Course) × (slice_get courses partition ≡ Some course)
@@ -233,7 +234,7 @@ module _ (flows : Flows) (count digest : ℕ) (steps : List Step) (first : List 
       log_ended : (partition : ℕ) (course : Course) (done : List Entry) (end : Option Resting) → course.comes ≡ End end → IsCourse steps done course → IsLog steps done course.log (End end)
       log_ended partition course done end is course_is = subst (λ (comes : Comes). IsLog steps done course.log comes) is course_is.log
 
-      entries_at : (partition : ℕ) (course : Course) (done : List Entry) → slice_get courses partition ≡ Some course → IsCourse steps done course → entries_in (logs_in (asked_for count digest partition) files) ≡ Some done
+      pub entries_at : (partition : ℕ) (course : Course) (done : List Entry) → slice_get courses partition ≡ Some course → IsCourse steps done course → entries_in (logs_in (asked_for count digest partition) files) ≡ Some done
       entries_at partition course done at course_is =
           let end = end_at partition course at in
           ended_entries (asked_for count digest partition) steps done course.log end.0 (log_chosen partition course at) (log_ended partition course done end.0 end.1 course_is)

@@ -29,6 +29,14 @@ at_other xs i j x y apart is =
     let low : j < length xs = omega (arith, slice_get_within (set xs i x) j y is, length-set xs i x) in
     slice_get-get_or xs j y low ∙ ap (λ (z : _). Some z) (sym (get_or-set_other xs i j x y apart) ∙ get_or_from_slice_get (set xs i x) j y y is)
 
+there_same : {X : Type 0} (xs : List X) (i : ℕ) (x : X) → i < length xs → slice_get (set xs i x) i ≡ Some x
+there_same xs i x low = slice_get-get_or (set xs i x) i x (omega (arith, low, length-set xs i x)) ∙ ap (λ (z : _). Some z) (get_or-set_same xs i x x low)
+
+there_other : {X : Type 0} (xs : List X) (i j : ℕ) (x y : X) → j ≢ i → slice_get xs j ≡ Some y → slice_get (set xs i x) j ≡ Some y
+there_other xs i j x y apart is =
+    let low : j < length (set xs i x) = omega (arith, slice_get_within xs j y is, length-set xs i x) in
+    slice_get-get_or (set xs i x) j y low ∙ ap (λ (z : _). Some z) (get_or-set_other xs i j x y apart ∙ get_or_from_slice_get xs j y y is)
+
 -- the sum once one changed
 sum_set : (xs : List Course) (i : ℕ) (x d : Course) → i < length xs → all_to_go (set xs i x) + to_go (get_or xs i d).comes ≡ all_to_go xs + to_go x.comes
 sum_set [] i x d low = absurd (omega arith)
@@ -45,6 +53,12 @@ module _ (was : List Course) (place : ℕ) (none next : Course) (low : place < l
 
   pub next_here : (course : Course) → slice_get now_at place ≡ Some course → course ≡ next
   next_here course is = at_same (set was place none) place next course low_still is
+
+  pub next_there : slice_get now_at place ≡ Some next
+  next_there = there_same (set was place none) place next low_still
+
+  pub others_there : (other : ℕ) (course : Course) → other ≢ place → slice_get was other ≡ Some course → slice_get now_at other ≡ Some course
+  others_there other course apart is = there_other (set was place none) place other next course apart (there_other was place other none course apart is)
 
   pub others_stay : (other : ℕ) (course : Course) → other ≢ place → slice_get now_at other ≡ Some course → slice_get was other ≡ Some course
   others_stay other course apart is = at_other was place other none course apart (at_other (set was place none) place other next course apart is)

@@ -6,7 +6,7 @@ use Rattle.part_items.specs.Logs.{Asked}
 use Rattle.dura_model.specs.Partition.{fresh}
 use Rattle.log_files.specs.Checked.{asked_for}
 use Rattle.log_files.specs.Fitting.{IsChosen}
-use Rattle.recover_core.specs.Courses.{IsCourse, FitsCourse, is_refused}
+use Rattle.recover_core.specs.Courses.{IsCourse, FitsCourse, HasCome, is_refused}
 use Rattle.recover_core.specs.declared.course.Course.{Course}
 
 -- Nothing was placed of the log that a partition has by the fronts of its files.
@@ -21,3 +21,7 @@ AllBegun count digest steps courses = (place : ℕ) (course : Course) → slice_
 -- each goes on from the state in which nothing happened
 abbrev pub AllFromFresh : List Course → Type 0
 AllFromFresh courses = (place : ℕ) (course : Course) → slice_get courses place ≡ Some course → FitsCourse (fresh place) course
+
+-- nothing was placed of any
+abbrev pub AllUnplaced : List Course → Type 0
+AllUnplaced courses = (place : ℕ) (course : Course) → slice_get courses place ≡ Some course → HasCome [] course

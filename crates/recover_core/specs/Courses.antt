@@ -14,7 +14,8 @@ use Rattle.dura_model.specs.Partition.{Partition, fresh, with_part}
 use Rattle.dura_model.specs.Entries as alone
 use Rattle.dura_model.specs.Entries.{entry_accepted, next_incarnation}
 use Rattle.many_logs.specs.Placing.{commit_accepted, states_after, commits_at}
-use Rattle.part_items.specs.Numbered.{behind}
+use Rattle.many_logs.specs.Labels.{state_next}
+use Rattle.part_items.specs.Numbered.{behind, IsNumbered}
 use Rattle.log_files.specs.Entries.{IsOpenedLog, Reads, EndsAs, whole_of, next_in, fuel_of}
 use Rattle.part_steps.specs.declared.state.PartState.{PartState}
 use Rattle.part_steps.specs.States.{AreStatesOfAll, parts_in}
@@ -112,6 +113,28 @@ pub record GoesOnFrom (p : Partition) (old new : Course) : Type 0 where
   pub read : IsRead new.comes
   pub log : new.log ≡ old.log
   pub less : to_go new.comes ≤ to_go old.comes
+  pub going : is_refused new.comes ≡ false → is_refused old.comes ≡ false
+  pub past : new.past ≡ old.past
+  pub incarnation : new.incarnation ≡ old.incarnation
+
+-- A course has come past these entries: their incarnations are kept, and the one that goes on behind them.
+pub record HasCome (entries : List Entry) (course : Course) : Type 0 where
+  pub past : course.past ≡ incarnations_in entries
+  pub incarnation : course.incarnation ≡ next_incarnation entries
+
+-- A partition went on by entries that were accepted one after another; each stands where its log goes on, and is of no earlier incarnation.
+pub record GoesBy (flows : Flows) (count place : ℕ) (tells : Type 0) (steps : List Step) (old new : ℕ → Partition) (was course : Course) : Type 0 where
+  pub going : is_refused was.comes ≡ false
+  pub entries : List Entry
+  pub made : states_after flows count old (commits_at place entries) ≡ Some new
+  pub numbered : IsNumbered (state_next (old place)) entries
+  pub come : (done : List Entry) → HasCome done was → HasCome (done ++ entries) course
+  -- where the site tells, they are the next ones of its log
+  pub read : tells → (done : List Entry) → IsCourse steps done was → IsCourse steps (done ++ entries) course
+
+-- so it did, unless an entry was refused: then the state that is made again may be another
+abbrev pub GoesUnrefused : Flows → (place : ℕ) → (tells : Type 0) → List Step → (old new : List PartState) → (was course : Course) → Type 0
+GoesUnrefused flows place tells steps old new was course = is_refused course.comes ≡ false → GoesBy flows (length old) place tells steps (parts_in old) (parts_in new) was course
 
 -- ---- what the entries make of the states
 

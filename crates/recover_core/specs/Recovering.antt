@@ -8,14 +8,15 @@ use Rattle.commit_log.specs.Outcomes.{RestsAs}
 use Rattle.dura_value.specs.Items.{Entry}
 use Rattle.dura_model.specs.Entries.{next_incarnation}
 use Rattle.dura_model.specs.Legal.{Legal}
-use Rattle.dura_model.specs.Partition.{shown}
+use Rattle.dura_model.specs.Partition.{fresh, shown}
 use Rattle.dura_model.specs.Steps.{Label}
 use Rattle.flow_syntax.specs.Syntax.{Flows}
 use Rattle.log_files.specs.Checked.{asked_for, RefusesFirst}
 use Rattle.log_files.specs.Entries.{frames_in}
 use Rattle.log_files.specs.declared.error.FilesError.TheVariants as unfit
 use Rattle.log_items.specs.Entries.{incarnations_in}
-use Rattle.many_logs.specs.Placing.{placed}
+use Rattle.many_logs.specs.Labels.{AreNumbered}
+use Rattle.many_logs.specs.Placing.{Commit, AllBelow, states_after, of_partition, placed}
 use Rattle.many_logs.specs.Unplaced.{Unplaced, illegal, unclosed, unplaced}
 use Rattle.part_items.specs.Kept.{first_of}
 use Rattle.part_items.specs.Logs.{Asked, Logs, no_log, log_in, logs_in, entries_in}
@@ -81,6 +82,17 @@ pub record CanGoOn (count : ℕ) (opened : Opened) : Type 0 where
   pub lives : length opened.lives.items ≡ count
   pub counted : (partition : ℕ) (life : Life) → slice_get opened.lives.items partition ≡ Some life → (parts_in opened.states.items partition).position ≡ length life.past
   pub younger : (partition : ℕ) (life : Life) → slice_get opened.lives.items partition ≡ Some life → (parts_in opened.states.items partition).incarnation ≤ life.incarnation
+
+-- Whatever the disk answered: entries were placed in an order, one after another from states in which nothing happened, and made these states; each stands at the next position of its partition, and is of no earlier incarnation. What is kept of each log are their incarnations, and the one that begins behind them.
+pub record WerePlaced (flows : Flows) (count digest : ℕ) (tells : Type 0) (files : ℕ → List ℕ) (opened : Opened) : Type 0 where
+  pub run : List Commit
+  pub below : AllBelow count run
+  pub made : states_after flows count fresh run ≡ Some (parts_in opened.states.items)
+  pub numbered : AreNumbered fresh run
+  pub past : (partition : ℕ) (life : Life) → slice_get opened.lives.items partition ≡ Some life → life.past ≡ incarnations_in (of_partition partition run)
+  pub incarnation : (partition : ℕ) (life : Life) → slice_get opened.lives.items partition ≡ Some life → life.incarnation ≡ next_incarnation (of_partition partition run)
+  -- where the site tells, they are the entries that the files keep
+  pub theirs : tells → (partition : ℕ) → partition < count → entries_in (logs_in (asked_for count digest partition) files) ≡ Some (of_partition partition run)
 
 -- A log rests in its file under a header of its partition, from position 0 on, with frames of the entries that the files have.
 pub record RestsFor (steps : List Step) (asked : Asked) (logs : Logs) (log : Resting) : Type 0 where

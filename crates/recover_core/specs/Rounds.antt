@@ -8,10 +8,11 @@ use Rattle.commit_log.specs.declared.reader.FrameError.TheVariants as unread
 use Rattle.commit_log.specs.declared.reader.OpenedLog.{OpenedLog}
 use Rattle.flow_syntax.specs.Syntax.{Flows}
 use Rattle.dura_model.specs.Partition.{Partition, fresh}
+use Rattle.many_logs.specs.Labels.{AreNumbered}
 use Rattle.many_logs.specs.Placing.{Commit, AllBelow, states_after, of_partition}
 use Rattle.part_steps.specs.declared.state.PartState.{PartState}
 use Rattle.part_steps.specs.States.{AreStatesOfAll, parts_in}
-use Rattle.recover_core.specs.Courses.{IsCourse, IsWhole, IsStill, Halts, FitsCourse, to_go}
+use Rattle.recover_core.specs.Courses.{IsCourse, IsWhole, IsStill, Halts, FitsCourse, HasCome, is_refused, to_go}
 use Rattle.recover_core.specs.declared.course.Course.{Course}
 use Rattle.recover_core.specs.declared.error.RecoverError.{RecoverError}
 use Rattle.recover_core.specs.declared.error.RecoverError.TheVariants as errors
@@ -62,6 +63,24 @@ pub record ArePlaced (flows : Flows) (count : ℕ) (steps : List Step) (parts : 
   pub below : AllBelow count run
   pub made : states_after flows count fresh run ≡ Some parts
   pub each : (place : ℕ) (course : Course) → slice_get courses place ≡ Some course → IsOfRun flows count steps parts run place course
+
+-- no entry was refused
+abbrev pub NoneRefused : List Course → Type 0
+NoneRefused courses = (place : ℕ) (course : Course) → slice_get courses place ≡ Some course → is_refused course.comes ≡ false
+
+-- Entries were placed in an order and made these states; each stands where its partition's log goes on, and the courses have come past them.
+pub record AreMade (flows : Flows) (count : ℕ) (tells : Type 0) (steps : List Step) (parts : ℕ → Partition) (courses : List Course) : Type 0 where
+  pub run : List Commit
+  pub below : AllBelow count run
+  pub made : states_after flows count fresh run ≡ Some parts
+  pub numbered : AreNumbered fresh run
+  pub each : (place : ℕ) (course : Course) → slice_get courses place ≡ Some course → HasCome (of_partition place run) course
+  -- where the site tells, they are those that were read of the logs
+  pub read : tells → (place : ℕ) (course : Course) → slice_get courses place ≡ Some course → IsCourse steps (of_partition place run) course
+
+-- so it is whatever the disk answered, unless an entry was refused
+abbrev pub HavePlaced : Flows → (count : ℕ) → (tells : Type 0) → List Step → (ℕ → Partition) → List Course → Type 0
+HavePlaced flows count tells steps parts courses = NoneRefused courses → AreMade flows count tells steps parts courses
 
 -- no partition can go on
 abbrev pub AllHalt : Flows → (count : ℕ) → (ℕ → Partition) → List Course → Type 0

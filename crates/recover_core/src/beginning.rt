@@ -1,13 +1,13 @@
 //! What recovery begins with: states in which nothing happened, and logs of which nothing was placed.
 
-ghost use Rattle.std.specs.Prelude.{◌≡◌, ◌≤◌, ◌<◌, List, Ok, None, IfOk, IfSome, length};
+ghost use Rattle.std.specs.Prelude.{◌≡◌, ◌≤◌, ◌<◌, [], List, Ok, None, IfOk, IfSome, length};
 ghost use Rattle.site_model.specs.History.{Step};
 ghost use Rattle.dura_model.specs.Partition.{fresh};
 ghost use Rattle.log_files.specs.Checked.{AreOpen, AllOpen, FitAll};
 ghost use Rattle.log_files.specs.Fitting.{plain, FitsFiles};
 ghost use Rattle.part_steps.specs.States.{AreStatesOfAll, parts_in};
-ghost use Rattle.recover_core.specs.Begun.{IsBegun, AllBegun, AllFromFresh};
-ghost use Rattle.recover_core.specs.Courses.{FitsCourse};
+ghost use Rattle.recover_core.specs.Begun.{IsBegun, AllBegun, AllFromFresh, AllUnplaced};
+ghost use Rattle.recover_core.specs.Courses.{FitsCourse, HasCome};
 
 use crate::course::Course;
 use log_files::{Asked, LogFiles, choose};
@@ -38,6 +38,7 @@ fn begin_course(alloc: Global, asked: Asked, both: LogFiles) -> Option<Course>
     ensures begun { (steps : List Step) → AreOpen steps asked.partition both
         → IfSome result (IsBegun (plain asked) steps) }
     ensures fits { IfSome result (FitsCourse (fresh asked.partition)) }
+    ensures none { IfSome result (HasCome []) }
     ensures refused { result ≡ None → FitsFiles (plain asked) both → ⊥ }
 {
     match choose(asked, both) {
@@ -59,6 +60,7 @@ pub(crate) fn begin_courses(
         → IfOk result (λ found. IfSome found
         (λ courses. AllBegun (length fronts.now) digest steps courses.items)) }
     ensures fits { IfOk result (λ found. IfSome found (λ courses. AllFromFresh courses.items)) }
+    ensures none { IfOk result (λ found. IfSome found (λ courses. AllUnplaced courses.items)) }
     ensures refused { result ≡ Ok None → FitAll (length fronts.now) digest fronts.now → ⊥ }
 {
     let mut courses = Vec::new(alloc);

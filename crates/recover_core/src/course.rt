@@ -5,7 +5,7 @@ ghost use Rattle.site_model.specs.History.{Step};
 ghost use Rattle.site_model.specs.Calls.{HasRisen};
 ghost use Rattle.dura_model.specs.Partition.{Partition, fresh};
 ghost use Rattle.dura_value.specs.Items.{Entry as PlainEntry};
-ghost use Rattle.recover_core.specs.Courses.{IsOpenedOr, IsFromFirst, IsCourse, ReadsCourse, FitsCourse, GoesOnFrom, IsStill, is_refused};
+ghost use Rattle.recover_core.specs.Courses.{IsOpenedOr, IsFromFirst, IsCourse, ReadsCourse, FitsCourse, GoesOnFrom, HasCome, IsStill, is_refused};
 ghost use Rattle.flow_syntax.specs.Syntax.{Flows};
 
 use commit_gate::Past;
@@ -47,6 +47,7 @@ impl Course {
         ensures begins { (steps : List Step) → IsOpenedOr steps log → IsCourse steps [] result }
         ensures fits { (partition : ℕ) → IsFromFirst log → FitsCourse (fresh partition) result }
         ensures going { is_refused result.comes ≡ false }
+        ensures none { HasCome [] result }
         ensures log { result.log ≡ log }
     {
         let comes = match log {

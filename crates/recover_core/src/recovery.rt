@@ -6,9 +6,9 @@ ghost use Rattle.site_model.specs.Calls.{HasRisen};
 ghost use Rattle.log_files.specs.Checked.{AllOpen, FitAll};
 ghost use Rattle.log_files.specs.Fronts.{synced_to, AreSyncs};
 ghost use Rattle.part_steps.specs.States.{AreStatesOfAll, parts_in};
-ghost use Rattle.recover_core.specs.Begun.{AllBegun, AllFromFresh};
+ghost use Rattle.recover_core.specs.Begun.{AllBegun, AllFromFresh, AllUnplaced};
 ghost use Rattle.recover_core.specs.Ended.{EndsBelow, AreEndsOf};
-ghost use Rattle.recover_core.specs.Recovering.{Opens, CanGoOn, AllRest};
+ghost use Rattle.recover_core.specs.Recovering.{Opens, CanGoOn, WerePlaced, AllRest};
 ghost use Rattle.recover_core.specs.Told.{error_of, ChecksAll, RefusesAll, WhyBroken, TellsLeft, TellsWhy};
 
 use crate::beginning::{begin_courses, fresh_states};
@@ -201,6 +201,11 @@ fn recover_from<V: Site, R: Reactions>(
         → Opens (R.flows reactions.now) (length fronts.now) digest
         (λ file. content_of file (V.history site.old)) result }
     ensures begins { IfOk result (CanGoOn (length fronts.now)) }
+    ensures placed { AllUnplaced courses.items
+        → (V.tells site.old
+        → AllBegun (length fronts.now) digest (V.history site.old) courses.items)
+        → IfOk result (WerePlaced (R.flows reactions.now) (length fronts.now) digest
+        (V.tells site.new) (λ file. content_of file (V.history site.old))) }
     ensures rests { V.tells site.new
         → AllBegun (length fronts.now) digest (V.history site.old) courses.items
         → IfOk result (λ opened. AllRest (V.history site.old) (length fronts.now) digest
@@ -246,6 +251,8 @@ pub fn recover<V: Site, R: Reactions>(
     ensures opens { V.tells site.new → Opens (R.flows reactions.now) count digest
         (λ file. content_of file (V.history site.old)) result }
     ensures begins { IfOk result (CanGoOn count) }
+    ensures placed { IfOk result (WerePlaced (R.flows reactions.now) count digest
+        (V.tells site.new) (λ file. content_of file (V.history site.old))) }
     ensures syncs { AreSyncs count (V.history site.old) (V.history site.new) }
     ensures synced { OnOk result (V.history site.new ≡ synced_to count (V.history site.old)) }
     ensures rests { V.tells site.new → IfOk result

@@ -4,7 +4,7 @@ ghost use Rattle.std.specs.Prelude.{◌≡◌, ◌≤◌, ◌<◌, ℕ, Option, 
 ghost use Rattle.site_model.specs.Calls.{HasRisen};
 ghost use Rattle.commit_log.specs.declared.reader.OpenedLog.{OpenedLog as Opened};
 ghost use Rattle.part_steps.specs.States.{parts_in};
-ghost use Rattle.recover_core.specs.Rounds.{error_in, AreReady, AllRead, AllWhole, ArePlaced, HasLess, Turns, GoesRound, PlacesAll};
+ghost use Rattle.recover_core.specs.Rounds.{error_in, AreReady, AllRead, AllWhole, ArePlaced, HavePlaced, HasLess, Turns, GoesRound, PlacesAll};
 
 use crate::course::Course;
 use crate::error::RecoverError;
@@ -55,6 +55,11 @@ fn turn<V: Site, R: Reactions>(
     ensures reads { V.tells site.new → (logs : ℕ → Option Opened)
         → AllRead (V.history site.old) logs courses.old.items
         → OnOk result (AllRead (V.history site.old) logs courses.new.items) }
+    ensures keeps { HavePlaced (R.flows reactions.now) (length states.old.items)
+        (V.tells site.old) (V.history site.old) (parts_in states.old.items) courses.old.items
+        → OnOk result (HavePlaced (R.flows reactions.now) (length states.old.items)
+        (V.tells site.new) (V.history site.old) (parts_in states.new.items)
+        courses.new.items) }
     ensures turns { V.tells site.new → (logs : ℕ → Option Opened)
         → AllRead (V.history site.old) logs courses.old.items
         → AllWhole (V.history site.old) logs
@@ -99,6 +104,11 @@ fn round<V: Site, R: Reactions>(
     ensures reads { V.tells site.new → (logs : ℕ → Option Opened)
         → AllRead (V.history site.old) logs courses.old.items
         → OnOk result (AllRead (V.history site.old) logs courses.new.items) }
+    ensures keeps { HavePlaced (R.flows reactions.now) (length states.old.items)
+        (V.tells site.old) (V.history site.old) (parts_in states.old.items) courses.old.items
+        → OnOk result (HavePlaced (R.flows reactions.now) (length states.old.items)
+        (V.tells site.new) (V.history site.old) (parts_in states.new.items)
+        courses.new.items) }
     ensures rounds { V.tells site.new → (logs : ℕ → Option Opened)
         → AllRead (V.history site.old) logs courses.old.items
         → AllWhole (V.history site.old) logs
@@ -139,6 +149,11 @@ pub(crate) fn place_all<V: Site, R: Reactions>(
     ensures reads { V.tells site.new → (logs : ℕ → Option Opened)
         → AllRead (V.history site.old) logs courses.old.items
         → OnOk result (AllRead (V.history site.old) logs courses.new.items) }
+    ensures keeps { HavePlaced (R.flows reactions.now) (length states.old.items)
+        (V.tells site.old) (V.history site.old) (parts_in states.old.items) courses.old.items
+        → OnOk result (HavePlaced (R.flows reactions.now) (length states.old.items)
+        (V.tells site.new) (V.history site.old) (parts_in states.new.items)
+        courses.new.items) }
     ensures placed { V.tells site.new → (logs : ℕ → Option Opened)
         → AllRead (V.history site.old) logs courses.old.items
         → AllWhole (V.history site.old) logs

@@ -7,7 +7,7 @@ ghost use Rattle.dura_value.specs.Items.{Entry as PlainEntry};
 ghost use Rattle.log_files.specs.Entries.{IsOpenedLog};
 ghost use Rattle.log_items.specs.Plain.{entry_of};
 ghost use Rattle.part_steps.specs.States.{AreStatesOfAll, parts_in};
-ghost use Rattle.recover_core.specs.Courses.{IsCourse, ReadsFurther, IsWhole, IsChain, IsStill, IsRead, FitsCourse, StandsNext, PlacesAt, SaysRefused, GoesFitting, Tries, GoesOn};
+ghost use Rattle.recover_core.specs.Courses.{IsCourse, ReadsFurther, IsWhole, IsChain, IsStill, IsRead, FitsCourse, StandsNext, PlacesAt, SaysRefused, GoesFitting, GoesUnrefused, Tries, GoesOn};
 ghost use Rattle.recover_core.specs.Restored.{IsFront};
 
 use crate::course::{Comes, Course};
@@ -150,6 +150,9 @@ fn try_next<V: Site, R: Reactions>(
     ensures tells { V.tells site.new → V.tells site.old }
     ensures fits { IfOk result (λ end.
         GoesFitting place states.old.items states.new.items course end.0 end.1) }
+    ensures unrefused { IfOk result (λ end.
+        GoesUnrefused (R.flows reactions.now) place (V.tells site.new) (V.history site.old)
+        states.old.items states.new.items course end.0) }
     // Whatever the logs of the others are: what was placed are entries of this log.
     ensures reads { V.tells site.new → (done : List PlainEntry)
         → IsCourse (V.history site.old) done course
@@ -221,6 +224,9 @@ pub(crate) fn go_on<V: Site, R: Reactions>(
     ensures tells { V.tells site.new → V.tells site.old }
     ensures fits { IfOk result (λ end.
         GoesFitting place states.old.items states.new.items course end.0 end.1) }
+    ensures unrefused { IfOk result (λ end.
+        GoesUnrefused (R.flows reactions.now) place (V.tells site.new) (V.history site.old)
+        states.old.items states.new.items course end.0) }
     // Whatever the logs of the others are: what was placed are entries of this log.
     ensures reads { V.tells site.new → (done : List PlainEntry)
         → IsCourse (V.history site.old) done course

@@ -2,8 +2,8 @@ use Rattle.std.proofs.Common.{◌∙◌, ◌+◌, ◌++◌, ◌∷◌, [], ℕ, 
 use Rattle.std.proofs.lemmas.Option.{slice_get-get_or}
 use Rattle.dura_model.specs.Partition.{fresh}
 use Rattle.log_files.specs.Checked.{asked_for}
-use Rattle.recover_core.specs.Begun.{IsBegun, AllBegun, AllFromFresh}
-use Rattle.recover_core.specs.Courses.{FitsCourse}
+use Rattle.recover_core.specs.Begun.{IsBegun, AllBegun, AllFromFresh, AllUnplaced}
+use Rattle.recover_core.specs.Courses.{FitsCourse, HasCome}
 use Rattle.recover_core.specs.declared.course.Course.{Course}
 use Rattle.recover_core.proofs.Pushed.{pushed, pushed_items, none_yet}
 use Rattle.recover_core.proofs.beginning.begin_courses.Goals as goal
@@ -13,6 +13,7 @@ partitions-init c = record {
   many = ap length c.new-courses.ensures.items;
   begun = λ steps opened. none_yet (λ place one. IsBegun (asked_for (length c.args.fronts.now) c.args.digest place) steps one) c.new-courses.result.items c.new-courses.ensures.items;
   fits = none_yet (λ place one. FitsCourse (fresh place) one) c.new-courses.result.items c.new-courses.ensures.items;
+  none = none_yet (λ place one. HasCome [] one) c.new-courses.result.items c.new-courses.ensures.items;
 }
 
 pub returns-in_default-clause-refused : goal.returns-in_default-clause-refused
@@ -34,6 +35,7 @@ partitions-preserved c =
       fits =
           let P : ℕ → Course → Type 0 = λ place one. FitsCourse (fresh place) one in
           subst AllFromFresh (sym items) (pushed P before course inv.fits (subst (λ (p : ℕ). P p course) (sym inv.many) c.in-Some.ensures.fits));
+      none = subst AllUnplaced (sym items) (pushed (λ place one. HasCome [] one) before course inv.none c.in-Some.ensures.none);
     }
 
 pub returns-clause-many : goal.returns-clause-many
@@ -44,3 +46,6 @@ returns-clause-begun c = c.partitions.invariant.begun
 
 pub returns-clause-fits : goal.returns-clause-fits
 returns-clause-fits c = c.partitions.invariant.fits
+
+pub returns-clause-none : goal.returns-clause-none
+returns-clause-none c = c.partitions.invariant.none

@@ -6,12 +6,13 @@ use Rattle.log_files.specs.Checked.{AllOpen}
 use Rattle.part_steps.specs.declared.state.PartState.{PartState}
 use Rattle.part_steps.specs.States.{parts_in}
 use Rattle.recover_core.specs.Ended.{EndsBelow, has_ended}
-use Rattle.recover_core.specs.Recovering.{AreOpened, CanGoOn, AllRest}
-use Rattle.recover_core.specs.Rounds.{ArePlaced, AreReady, PlacesAll, IsOutside}
+use Rattle.recover_core.specs.Recovering.{AreOpened, CanGoOn, WerePlaced, AllRest}
+use Rattle.recover_core.specs.Rounds.{ArePlaced, HavePlaced, AreReady, PlacesAll, IsOutside}
 use Rattle.recover_core.specs.Told.{AllKeep, RefusesAll, WhyBroken, TellsLeft}
 use Rattle.recover_core.specs.declared.course.Course.{Course}
 use Rattle.recover_core.proofs.LogsWhole.{logs_of, begun_read, kept_whole_all, ended_whole_all}
 use Rattle.recover_core.proofs.LogsPlaced.{all_refuses, outside_refuses, begun_ready, begun_placed, can_go_on, all_rest, all_opened, left_refuses, if_lives, opens_by}
+use Rattle.recover_core.proofs.PlacedAnyway.{none_placed, were_placed}
 use Rattle.recover_core.proofs.recovery.recover_from.Goals as goal
 
 pub place_all-requires-clause-ready : goal.place_all-requires-clause-ready
@@ -74,6 +75,27 @@ returns-in_default-clause-begins g c =
     let gone = c.in-Ok-place_all.ensures in
     if_lives c.with_lives.result courses later c.with_lives.ensures.ends (CanGoOn count) (λ o is ends.
     can_go_on count o courses (subst (λ (l : List PartState). AreReady l courses) (sym is) gone.ready) (ap length is ∙ gone.many ∙ c.in-Ok.ensures.many) ends)
+
+pub returns-in_default-clause-placed : goal.returns-in_default-clause-placed
+returns-in_default-clause-placed g c unplaced begun =
+    let flows = g.R.Reactions.flows c.args.reactions.now in
+    let count = length c.args.fronts.now in
+    let first = c.args.courses.items in
+    let states = c.in-Ok.states.items in
+    let later = c.place_all.new.states.items in
+    let courses = c.place_all.new.courses.items in
+    let digest = c.args.digest in
+    let old = g.V.Site.history c.args.site.now in
+    let then = g.V.Site.tells c.place_all.new.site in
+    let gone = c.in-Ok-place_all.ensures in
+    let same_many = gone.ready.many ∙ gone.many ∙ c.in-Ok.ensures.many ∙ sym c.requires.many in
+    let placed = gone.keeps (none_placed flows (length states) count digest (g.V.Site.tells c.args.site.now) old (parts_in states) first c.in-Ok.ensures.fresh unplaced begun) in
+    let here = subst (λ (n : ℕ). HavePlaced flows n then old (parts_in later) courses) c.in-Ok.ensures.many placed in
+    let begun_then = λ (told : then). begun (c.place_all.ensures.tells told) in
+    let read = λ (told : then). gone.reads told (logs_of first) (begun_read count digest old first (begun_then told)) in
+    let ended = subst (λ (l : List Course). EndsBelow (length l) l) c.deref.ensures.value c.in_default.ensures in
+    if_lives c.with_lives.result courses later c.with_lives.ensures.ends (WerePlaced flows count digest then (λ f. content_of f old)) (λ o is ends.
+    were_placed flows count digest then old first o courses (parts_in later) c.requires.many same_many begun_then read here ended (ap parts_in is) ends)
 
 pub returns-in_default-clause-rests : goal.returns-in_default-clause-rests
 returns-in_default-clause-rests g c tells begun =

@@ -1,6 +1,7 @@
 use Rattle.std.proofs.Common.{◌∙◌, ◌≤◌, length, Ok, Err, arith}
 use Rattle.part_steps.specs.States.{parts_in}
 use Rattle.recover_core.proofs.Rounded.{round_on, round_over, less_on, reads_over, turns_over}
+use Rattle.recover_core.proofs.PlacedAnyway.{keeps_over}
 use Rattle.recover_core.proofs.rounds.round.Goals as goal
 
 pub returns-in-Err-clause-rounds : goal.returns-in-Err-clause-rounds
@@ -32,6 +33,7 @@ places-preserved g c =
       told = λ tells. inv.told (c.turn.ensures.tells tells);
       unchanged = c.turn.ensures.unchanged ∙ inv.unchanged;
       reads = λ tells logs all. reads_over mid old logs was courses inv.unchanged (inv.reads (c.turn.ensures.tells tells) logs all) (c.in-Ok.ensures.reads tells);
+      keeps = keeps_over flows (length now) (length first) (g.V.Site.tells c.args.site.now) (g.V.Site.tells c.places.site) (g.V.Site.tells c.turn.new.site) mid old (parts_in first) (parts_in now) (parts_in new) c.args.courses.now.items was courses inv.many inv.unchanged inv.keeps c.in-Ok.ensures.keeps;
       goes = λ tells logs all whole placed.
           let before = c.turn.ensures.tells tells in
           let so_far = inv.goes before logs all whole placed in

@@ -1,7 +1,7 @@
 use Rattle.std.proofs.Common.{◌≡◌, ◌≤◌, ℕ, Option, length}
 use Rattle.commit_log.specs.declared.reader.OpenedLog.{OpenedLog as Opened}
 use Rattle.part_steps.specs.States.{parts_in}
-use Rattle.recover_core.specs.Rounds.{AreReady, AllRead, AllWhole, ArePlaced, HasLess}
+use Rattle.recover_core.specs.Rounds.{AreReady, AllRead, AllWhole, ArePlaced, HavePlaced, HasLess}
 use Rattle.recover_core.proofs.Rounded.{InRound}
 use Rattle.recover_core.proofs.rounds.round.Given as goal
 
@@ -14,6 +14,8 @@ invariant-places g l = record {
   told : g.V.Site.tells l.site → g.V.Site.tells l.fn.site;
   unchanged : g.V.Site.history l.site ≡ g.V.Site.history l.fn.site;
   reads : g.V.Site.tells l.site → (logs : ℕ → Option Opened) → AllRead (g.V.Site.history l.fn.site) logs l.fn.courses.items → AllRead (g.V.Site.history l.fn.site) logs l.courses.items;
+  keeps : HavePlaced (g.R.Reactions.flows l.reactions) (length l.fn.states.items) (g.V.Site.tells l.fn.site) (g.V.Site.history l.fn.site) (parts_in l.fn.states.items) l.fn.courses.items
+      → HavePlaced (g.R.Reactions.flows l.reactions) (length l.fn.states.items) (g.V.Site.tells l.site) (g.V.Site.history l.fn.site) (parts_in l.states.items) l.courses.items;
   goes : g.V.Site.tells l.site → (logs : ℕ → Option Opened) → AllRead (g.V.Site.history l.fn.site) logs l.fn.courses.items → AllWhole (g.V.Site.history l.fn.site) logs
       → ArePlaced (g.R.Reactions.flows l.reactions) (length l.fn.states.items) (g.V.Site.history l.fn.site) (parts_in l.fn.states.items) l.fn.courses.items
       → InRound (g.R.Reactions.flows l.reactions) (length l.fn.states.items) (g.V.Site.history l.fn.site) l.place (parts_in l.states.items) l.courses.items l.moved;

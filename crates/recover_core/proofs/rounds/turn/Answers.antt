@@ -4,9 +4,10 @@ use Rattle.many_logs.specs.Placing.{of_partition}
 use Rattle.many_logs.proofs.Own.{own_chain}
 use Rattle.part_steps.specs.States.{parts_in}
 use Rattle.recover_core.specs.Courses.{IsWhole}
-use Rattle.recover_core.specs.Rounds.{AreReady, AllRead, HasLess, HasTurned, IsOutside}
+use Rattle.recover_core.specs.Rounds.{AreReady, AllRead, HasLess, HavePlaced, HasTurned, IsOutside}
 use Rattle.recover_core.specs.declared.course.Course.{Course}
 use Rattle.recover_core.proofs.Turned.{course_there, ready_still, less_still, read_still, chain_here, turned, outside}
+use Rattle.recover_core.proofs.PlacedAnyway.{kept_placed}
 use Rattle.recover_core.proofs.rounds.turn.Goals as goal
 
 pub go_on-requires-clause-fits : goal.go_on-requires-clause-fits
@@ -44,6 +45,24 @@ returns-clause-reads g c tells logs all =
     let here = ap (λ (l : List Course). slice_set l c.args.place c.in-Ok.gone.0) c.swap-course.ensures.now in
     subst (AllRead steps logs) (sym (c.swap.ensures.now ∙ here))
     (read_still old new c.args.courses.now.items c.args.place none c.swap-course.result c.in-Ok.gone.0 c.in-Ok.gone.1 c.requires.place c.requires.ready c.swap-course.ensures.was c.in-Ok.ensures.fits steps logs all (c.in-Ok.ensures.reads tells))
+
+pub returns-clause-keeps : goal.returns-clause-keeps
+returns-clause-keeps g c placed =
+    let flows = g.R.Reactions.flows c.args.reactions.now in
+    let old = c.args.states.now.items in
+    let new = c.go_on.new.states.items in
+    let was = c.args.courses.now.items in
+    let place = c.args.place in
+    let course = c.swap-course.result in
+    let none = c.begin.result in
+    let many = c.requires.ready.many in
+    let low = c.requires.place in
+    let inside : place < length was = omega (arith, many, low) in
+    let here = ap (λ (l : List Course). slice_set l place c.in-Ok.gone.0) c.swap-course.ensures.now in
+    let steps = g.V.Site.history c.args.site.now in
+    let then = g.V.Site.tells c.go_on.new.site in
+    subst (HavePlaced flows (length old) then steps (parts_in new)) (sym (c.swap.ensures.now ∙ here))
+    (kept_placed old new was place none course c.in-Ok.gone.0 inside low (course_there was place course inside c.swap-course.ensures.was) c.in-Ok.ensures.fits.others flows (g.V.Site.tells c.args.site.now) then steps c.go_on.ensures.tells c.in-Ok.ensures.unrefused placed)
 
 pub returns-clause-turns : goal.returns-clause-turns
 returns-clause-turns g c tells logs all whole placed =

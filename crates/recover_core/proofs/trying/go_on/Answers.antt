@@ -5,11 +5,13 @@ use Rattle.part_steps.specs.States.{parts_in}
 use Rattle.recover_core.specs.Courses.{to_go}
 use Rattle.recover_core.proofs.Going.{none_yet, stays_read}
 use Rattle.recover_core.proofs.WentOn.{loop_read, fitting_yet, fitting_more, fitting_end, read_broken, try_broken, entry_more, none_more}
+use Rattle.recover_core.proofs.PlacedAnyway.{none_gone, more_gone}
 use Rattle.recover_core.proofs.trying.go_on.Goals as goal
 
 pub entries-init : goal.entries-init
 entries-init g c = record {
   goes = fitting_yet c.args.place c.args.states.now.items c.args.course c.requires.all c.requires.fits;
+  unrefused = none_gone (g.R.Reactions.flows c.args.reactions.now) c.args.place (g.V.Site.tells c.args.site.now) (g.V.Site.history c.args.site.now) c.args.states.now.items c.args.course c.args.course refl;
   told = λ tells. tells;
   unchanged = refl;
   read = λ tells done is. stays_read (g.V.Site.history c.args.site.now) done c.args.course is;
@@ -39,6 +41,8 @@ entries-preserved g c =
     let goes = c.in-Ok.ensures.fits (parts_in now c.args.place) inv.goes.fits in
     record {
       goes = fitting_more c.args.place first now new c.args.course c.entries.course c.in-Ok.read c.entries.moved tried inv.goes goes c.in-Ok-try_next.ensures.fits c.if-not-placed.false;
+      unrefused = more_gone flows c.args.place (g.V.Site.tells c.entries.site) (g.V.Site.tells c.read_on.new.site) (g.V.Site.tells c.try_next.new.site) steps (g.V.Site.history c.entries.site) (g.V.Site.history c.read_on.new.site) first now new c.args.course c.entries.course c.in-Ok.read tried.0
+          c.read_on.ensures.tells c.try_next.ensures.tells inv.unchanged (c.read_on.ensures.unchanged ∙ inv.unchanged) inv.goes.many inv.unrefused goes c.in-Ok.ensures.reads c.in-Ok-try_next.ensures.unrefused;
       told = λ tells. inv.told (c.read_on.ensures.tells (c.try_next.ensures.tells tells));
       unchanged = c.try_next.ensures.unchanged ∙ c.read_on.ensures.unchanged ∙ inv.unchanged;
       read = λ tells done is.
@@ -126,6 +130,15 @@ returns-then-not-placed-clause-fits g c =
     let now = c.entries.states.items in
     let goes = c.in-Ok.ensures.fits (parts_in now c.args.place) inv.goes.fits in
     fitting_end c.args.place c.args.states.now.items now c.try_next.new.states.items c.args.course c.entries.course c.in-Ok.read c.entries.moved c.in-Ok-try_next.tried inv.goes goes c.in-Ok-try_next.ensures.fits
+
+pub returns-then-not-placed-clause-unrefused : goal.returns-then-not-placed-clause-unrefused
+returns-then-not-placed-clause-unrefused g c =
+    let inv = c.entries.invariant in
+    let now = c.entries.states.items in
+    let goes = c.in-Ok.ensures.fits (parts_in now c.args.place) inv.goes.fits in
+    more_gone (g.R.Reactions.flows c.args.reactions.now) c.args.place (g.V.Site.tells c.entries.site) (g.V.Site.tells c.read_on.new.site) (g.V.Site.tells c.try_next.new.site) (g.V.Site.history c.args.site.now) (g.V.Site.history c.entries.site) (g.V.Site.history c.read_on.new.site)
+    c.args.states.now.items now c.try_next.new.states.items c.args.course c.entries.course c.in-Ok.read c.in-Ok-try_next.tried.0 c.read_on.ensures.tells c.try_next.ensures.tells inv.unchanged (c.read_on.ensures.unchanged ∙ inv.unchanged) inv.goes.many inv.unrefused goes c.in-Ok.ensures.reads
+    c.in-Ok-try_next.ensures.unrefused
 
 pub returns-then-not-placed-clause-reads : goal.returns-then-not-placed-clause-reads
 returns-then-not-placed-clause-reads g c tells done is =

@@ -1,7 +1,7 @@
 use Rattle.std.proofs.Common.{◌≡◌, ◌≤◌, List, length}
 use Rattle.dura_value.specs.Items.{Entry}
 use Rattle.part_steps.specs.States.{parts_in}
-use Rattle.recover_core.specs.Courses.{IsCourse, ReadsFurther, IsWhole, IsChain, IsStill, GoesFitting, to_go}
+use Rattle.recover_core.specs.Courses.{IsCourse, ReadsFurther, IsWhole, IsChain, IsStill, GoesFitting, GoesUnrefused, to_go}
 use Rattle.recover_core.proofs.Going.{InLoop}
 use Rattle.recover_core.proofs.trying.go_on.Given as goal
 
@@ -9,6 +9,7 @@ use Rattle.recover_core.proofs.trying.go_on.Given as goal
 abbrev pub invariant-entries : goal.invariant-entries
 invariant-entries g l = record {
   goes : GoesFitting l.place l.fn.states.items l.states.items l.fn.course l.course l.moved;
+  unrefused : GoesUnrefused (g.R.Reactions.flows l.reactions) l.place (g.V.Site.tells l.site) (g.V.Site.history l.fn.site) l.fn.states.items l.states.items l.fn.course l.course;
   told : g.V.Site.tells l.site → g.V.Site.tells l.fn.site;
   unchanged : g.V.Site.history l.site ≡ g.V.Site.history l.fn.site;
   read : g.V.Site.tells l.site → (done : List Entry) → IsCourse (g.V.Site.history l.fn.site) done l.fn.course → ReadsFurther (g.V.Site.history l.fn.site) done l.course;
