@@ -1,34 +1,31 @@
 -- A frame goes behind what its log has, and what it sends goes to partitions that there are.
-use Rattle.std.proofs.Common.{◌≡◌, ◌<◌, ◌≤◌, ℕ, zero, suc, ◌+◌, ◌-◌, ◌^◌, List, [], ◌∷◌, ◌++◌, map, take, drop, sym, ap, subst, ◌∙◌, arith, Some}
+use Rattle.std.proofs.Common.{◌≡◌, ◌<◌, ◌≤◌, ℕ, zero, suc, ◌+◌, ◌-◌, ◌^◌, List, [], ◌∷◌, map, take, drop, refl, sym, ap, subst, ◌∙◌, append-nil, arith, Some}
 use Rattle.std.specs.List.{All, flat_map, range_with_len}
 use Rattle.std.proofs.lemmas.List.{take-append-drop}
 use Rattle.std.proofs.lemmas.List.Concat.{flat_map-cons}
 use Rattle.std.proofs.lemmas.List.Elements.{All-append, All-cons, All-nil, All-head, All-tail}
+use Rattle.cell_frames.specs.Begun.{GoesOnAt}
 use Rattle.cell_packets.specs.Packets.{sent_to, sent_from, ends_of}
 use Rattle.commit_gate.proofs.Going.{all_back}
 use Rattle.commit_gate.specs.Keeping.{IsOfOne, AreOfOne}
 use Rattle.commit_gate.specs.Views.{all_sent}
 use Rattle.commit_gate.specs.declared.ledger.Sending.{Sending}
-use Rattle.dura_model.specs.Partition.{Partition, fresh}
+use Rattle.dura_model.specs.Partition.{Partition}
 use Rattle.dura_model.proofs.EntriesSend.{entries_send}
 use Rattle.dura_model.specs.Sends.{IsOfOthers}
 use Rattle.dura_value.specs.Items.{Item, Entry, Posted, took, got, ran, ended, fired, trim}
 use Rattle.flow_syntax.specs.Syntax.{Flows}
 use Rattle.hub_store.specs.Frames.{goes_on, GoesBehind}
-use Rattle.hub_store.specs.Origin.{Origin}
+use Rattle.hub_store.specs.Origin.{Log, Origin}
 use Rattle.hub_store.specs.Trail.{Said}
 use Rattle.log_items.specs.Entries.{items_in}
 use Rattle.log_items.specs.Streams.{Outbox, Sent}
-use Rattle.many_logs.proofs.Own.{own_chain}
 use Rattle.many_logs.specs.Labels.{state_next}
-use Rattle.many_logs.specs.Placing.{of_partition, states_after}
 use Rattle.many_rules.proofs.GateMoments.{goes_behind}
-use Rattle.many_rules.specs.Leaves.{header_at}
 use Rattle.many_rules.specs.Local.{in_turn}
 use Rattle.many_rules.specs.Makes.{Makes}
 use Rattle.many_rules.specs.Rules.{Rules}
-use Rattle.commit_log.specs.declared.header.Header.{Header}
-use Rattle.part_items.proofs.Behind.{behind_both, numbered_both}
+use Rattle.part_items.proofs.Behind.{behind_both}
 use Rattle.part_items.proofs.NumberedFrames.{numbered_again}
 use Rattle.part_items.proofs.Writable.{frame_writable}
 use Rattle.part_items.specs.ItemFits.{FitsItem, FitsEntry, FitsFrame}
@@ -40,32 +37,34 @@ use Rattle.spec_tracker.specs.declared.marks.Marks.{Marks}
 
 -- ---- where it goes
 
-module _ (o : Origin) (rules : Rules) (digest : ℕ) (headers : (partition : ℕ) → partition < rules.count → (o.logs partition).header ≡ header_at rules.count digest partition)
-    (theirs : (partition : ℕ) → partition < rules.count → of_partition partition rules.recovered ≡ (o.logs partition).entries) (begun_by : states_after rules.flows rules.count fresh rules.recovered ≡ Some rules.begin)
-    (latest : ℕ) (mine : List Entry) (told : List Said) (partition : ℕ) (going : List Entry) (makes : Makes rules latest mine told partition going) where
-  abbrev old : List Entry
-  old = of_partition partition rules.recovered
+-- behind the same entries a log goes on where a state does, if it did before them
+at_behind : (log state : Next) (entries : List Entry) → GoesOnAt log state → GoesOnAt (behind_all log entries) (behind_all state entries)
+at_behind log state [] goes = goes
+at_behind log state (entry ∷ entries) goes = record { position = refl; incarnation = omega arith }
 
-  abbrev first : Next
-  first = state_next (fresh partition)
+-- what stands where the state goes on stands where the log does
+numbered_there : (log state : Next) (entries : List Entry) → GoesOnAt log state → IsNumbered state entries → IsNumbered log entries
+numbered_there log state [] goes numbered = tt
+numbered_there log state (entry ∷ entries) goes numbered =
+    let later = numbered.1 in
+    let before = goes.incarnation in
+    (numbered.0 ∙ sym goes.position, omega (arith, later, before), numbered.2)
 
-  stands : IsNumbered first (old ++ mine) → state_next makes.before ≡ behind_all first (old ++ mine)
-  stands numbered =
-      let halves = (numbered_both first old mine).0 numbered in
-      let begun : state_next (rules.begin partition) ≡ behind_all first old = goes_behind rules.flows rules.count old (fresh partition) (rules.begin partition) (own_chain rules.flows rules.count rules.recovered fresh rules.begin partition begun_by) halves.0 in
-      goes_behind rules.flows rules.count mine (rules.begin partition) makes.before makes.made (subst (λ (n : Next). IsNumbered n mine) (sym begun) halves.1)
-      ∙ ap (λ (n : Next). behind_all n mine) begun
-      ∙ sym (behind_both first old mine)
+goes_on_then : (log : Log) (mine : List Entry) → goes_on log mine ≡ behind_all (goes_on log []) mine
+goes_on_then log mine =
+    behind_both (first_of log.header) log.entries mine
+    ∙ ap (λ (l : List Entry). behind_all (behind_all (first_of log.header) l) mine) (sym (append-nil log.entries))
 
-  there : goes_on (o.logs partition) mine ≡ behind_all first (old ++ mine)
-  there =
-      ap (λ (h : Header). behind_all (first_of h) ((o.logs partition).entries ++ mine)) (headers partition makes.below)
-      ∙ ap (λ (l : List Entry). behind_all first (l ++ mine)) (sym (theirs partition makes.below))
-
-  pub goes_there : IsNumbered first (old ++ mine) → FitsFrame going → GoesBehind (goes_on (o.logs partition) mine) going
-  goes_there numbered fits =
-      let here : IsNumbered (goes_on (o.logs partition) mine) going = subst (λ (n : Next). IsNumbered n going) (stands numbered ∙ sym there) makes.numbered in
-      record { spells = frame_writable going fits; again = numbered_again (goes_on (o.logs partition) mine) going here fits }
+pub goes_there : (o : Origin) (rules : Rules) (latest : ℕ) (mine : List Entry) (told : List Said) (partition : ℕ) (going : List Entry) → GoesOnAt (goes_on (o.logs partition) []) (state_next (rules.begin partition))
+    → IsNumbered (state_next (rules.begin partition)) mine → Makes rules latest mine told partition going → FitsFrame going → GoesBehind (goes_on (o.logs partition) mine) going
+goes_there o rules latest mine told partition going goes numbered makes fits =
+    let log = o.logs partition in
+    let state = state_next (rules.begin partition) in
+    let stands : state_next makes.before ≡ behind_all state mine = goes_behind rules.flows rules.count mine (rules.begin partition) makes.before makes.made numbered in
+    let there : IsNumbered (goes_on log mine) going =
+    subst (λ (n : Next). IsNumbered n going) (sym (goes_on_then log mine))
+    (numbered_there (behind_all (goes_on log []) mine) (behind_all state mine) going (at_behind (goes_on log []) state mine goes) (subst (λ (n : Next). IsNumbered n going) stands makes.numbered)) in
+    record { spells = frame_writable going fits; again = numbered_again (goes_on log mine) going there fits }
 
 -- ---- what comes in by it
 

@@ -4,7 +4,7 @@ use Rattle.std.specs.Prelude.{OnOk, IfOk}
 use Rattle.std.proofs.lemmas.List.{length-take}
 use Rattle.cell_frames.proofs.Cells.{base_long}
 use Rattle.cell_frames.proofs.Stays.{StaysFor, goes_still, joined_still, same_reads, others_then, more_read}
-use Rattle.cell_frames.specs.Begun.{BeginsWith}
+use Rattle.cell_frames.specs.Begun.{HasBegun}
 use Rattle.cell_frames.specs.Joined.{StoreView, GoesOnFrom, Joined, IsOut, view_of}
 use Rattle.cell_frames.specs.Unlost.{floor_of}
 use Rattle.cell_frames.specs.Writes.{KeepsOthers}
@@ -75,8 +75,8 @@ no_more s p c out = elim (below_or 0 c.out) [
 ]
 
 module _ {V L : Type 0} {G : sites.Ghosts V} {K : starts.Ghosts (gated_types.Gated L)} where
-  pub made_of : (o : Origin) (rules : Rules) (digest count : ℕ) (store : GatedStore V L G K) → BeginsWith o rules digest → IsKept count (ledgers rules) (readers rules) (Makes rules) store → HaveMade rules (trail_in store.logs)
-  made_of o rules digest count store begins kept = makes_states rules begins.made begins.below begins.numbered begins.given (trail_in store.logs) kept.fits.grown
+  pub made_of : (o : Origin) (rules : Rules) (count : ℕ) (store : GatedStore V L G K) → HasBegun o rules → IsKept count (ledgers rules) (readers rules) (Makes rules) store → HaveMade rules (trail_in store.logs)
+  made_of o rules count store begins kept = makes_states rules begins.made begins.below begins.numbered (trail_in store.logs) kept.fits.grown
 
   -- the frame under way is one that its partition may make
   pub may_go : (rules : Rules) (count part : ℕ) (store : GatedStore V L G K) (going : List Entry) → part < count → IsKept count (ledgers rules) (readers rules) (Makes rules) store → going_at store.logs part ≡ Some going
@@ -121,8 +121,8 @@ failed_joined rules p old new c stays going some joined = record {
 }
 
 -- where a cell goes on from
-pub base_here : (o : Origin) (rules : Rules) (digest : ℕ) → BeginsWith o rules digest → (s : StoreView) (p : ℕ) → p < rules.count → (c : CellView) → GoesOnFrom rules s p c → (base : Partition) → placed rules.flows rules.count (rules.begin c.number) c.slot.mine ≡ Ok base → base.position ≡ log_length (ledgers rules p (of_part p s.trail))
-base_here o rules digest begins s p below c goes base settled =
+pub base_here : (o : Origin) (rules : Rules) → HasBegun o rules → (s : StoreView) (p : ℕ) → p < rules.count → (c : CellView) → GoesOnFrom rules s p c → (base : Partition) → placed rules.flows rules.count (rules.begin c.number) c.slot.mine ≡ Ok base → base.position ≡ log_length (ledgers rules p (of_part p s.trail))
+base_here o rules begins s p below c goes base settled =
     base_long rules p (of_part p s.trail) base below begins.made
     (subst (λ (n : ℕ). placed rules.flows rules.count (rules.begin n) (of_part p s.trail) ≡ Ok base) goes.number (subst (λ (l : List Entry). placed rules.flows rules.count (rules.begin c.number) l ≡ Ok base) goes.mine settled))
 

@@ -3,7 +3,7 @@ use Rattle.std.proofs.Common.{◌≡◌, inl, inr, ◌<◌, ◌≤◌, ℕ, zero
 use Rattle.std.specs.List.{All}
 use Rattle.std.proofs.lemmas.List.{length-map, length-take}
 use Rattle.std.proofs.lemmas.List.Elements.{All-cons, All-head, All-tail, All-nil}
-use Rattle.cell_frames.specs.Begun.{BeginsWith}
+use Rattle.cell_frames.specs.Begun.{HasBegun}
 use Rattle.cell_frames.specs.Joined.{StoreView, Joined, read_by}
 use Rattle.cell_frames.specs.Writes.{MayBeWritten}
 use Rattle.cell_frames.proofs.Behind.{goes_there, are_of_one, picked_inside}
@@ -15,6 +15,7 @@ use Rattle.cell_packets.specs.Packets.{ends_of}
 use Rattle.commit_gate.specs.Ledgers.{Ledger, log_length, after_frame}
 use Rattle.commit_gate.specs.Views.{all_sent}
 use Rattle.commit_gate.specs.declared.ledger.Sending.{Sending}
+use Rattle.many_rules.proofs.GateMoments.{goes_behind}
 use Rattle.many_rules.proofs.Meeting.{below_or}
 use Rattle.dura_model.specs.Entries.{placed}
 use Rattle.dura_model.specs.Partition.{Partition, fresh}
@@ -23,6 +24,7 @@ use Rattle.hub_store.specs.Origin.{Origin}
 use Rattle.hub_store.specs.Trail.{of_part}
 use Rattle.log_items.specs.Entries.{items_in}
 use Rattle.many_logs.proofs.Frames.{of_both}
+use Rattle.many_logs.proofs.Own.{own_chain}
 use Rattle.many_logs.specs.Labels.{state_next}
 use Rattle.many_logs.specs.Placing.{of_partition}
 use Rattle.many_rules.specs.Appended.{puts_part}
@@ -31,7 +33,8 @@ use Rattle.many_rules.specs.Local.{ledger_is, outside}
 use Rattle.many_rules.specs.Makes.{Makes}
 use Rattle.many_rules.specs.Rules.{Rules, commits_of}
 use Rattle.part_items.specs.ItemFits.{FitsEntry, FitsFrame}
-use Rattle.part_items.specs.Numbered.{IsNumbered}
+use Rattle.part_items.proofs.Behind.{numbered_both}
+use Rattle.part_items.specs.Numbered.{Next, IsNumbered}
 use Rattle.spec_cell.specs.Picks.{HasPicked}
 use Rattle.spec_cell.specs.Views.{CellView, HasFacts, IsBase}
 use Rattle.spec_tracker.specs.declared.marks.Marks.{Marks}
@@ -50,7 +53,7 @@ long_as rules latest mine told p going makes =
     let old = of_partition p rules.recovered in
     makes.position ∙ sym (length-append old mine) ∙ sym (length-map (old ++ mine) (λ (e : Entry). e.incarnation)) ∙ sym (ap log_length (ledger_is rules p mine makes.before makes.below makes.made))
 
-module _ (o : Origin) (rules : Rules) (digest : ℕ) (begins : BeginsWith o rules digest) (s : StoreView) (made : HaveMade rules s.trail) (p : ℕ) (below : p < rules.count) (c new : CellView) (joined : Joined rules s p c)
+module _ (o : Origin) (rules : Rules) (begins : HasBegun o rules) (s : StoreView) (made : HaveMade rules s.trail) (p : ℕ) (below : p < rules.count) (c new : CellView) (joined : Joined rules s p c)
     (facts : HasFacts rules.flows rules.count (rules.begin p) c) (marks : Marks) (frame : List Entry) (sending : List Sending) (picked : HasPicked rules.flows rules.count (rules.begin p) marks c frame sending new) where
   abbrev mine : List Entry
   mine = of_part p s.trail
@@ -77,8 +80,14 @@ module _ (o : Origin) (rules : Rules) (digest : ℕ) (begins : BeginsWith o rule
     each = subst (All FitsEntry) (sym picked.first) (all_taken FitsEntry (length frame) c.entries facts.fit);
   }
 
-  numbered : IsNumbered (state_next (fresh p)) (of_partition p rules.recovered ++ mine)
-  numbered = subst (IsNumbered (state_next (fresh p))) (of_both p rules.recovered (commits_of s.trail) ∙ ap (λ (l : List Entry). of_partition p rules.recovered ++ l) (puts_part p s.trail)) (made.numbered p)
+  numbered : IsNumbered (state_next (rules.begin p)) mine
+  numbered =
+      let first = state_next (fresh p) in
+      let old = of_partition p rules.recovered in
+      let whole : IsNumbered first (old ++ mine) = subst (IsNumbered first) (of_both p rules.recovered (commits_of s.trail) ∙ ap (λ (l : List Entry). old ++ l) (puts_part p s.trail)) (made.numbered p) in
+      let halves = (numbered_both first old mine).0 whole in
+      let begun = goes_behind rules.flows rules.count old (fresh p) (rules.begin p) (own_chain rules.flows rules.count rules.recovered fresh rules.begin p begins.made) halves.0 in
+      subst (λ (n : Next). IsNumbered n mine) (sym begun) halves.1
 
   -- its state is the cell's settled one
   base_is : makes_here.before ≡ facts.base
@@ -119,7 +128,7 @@ module _ (o : Origin) (rules : Rules) (digest : ℕ) (begins : BeginsWith o rule
 
   pub may_be_written : MayBeWritten o rules s p frame (all_sent sending)
   may_be_written = record {
-    behind = goes_there o rules digest begins.headers begins.theirs begins.made s.latest mine s.told p frame makes_here numbered fits_frame;
+    behind = goes_there o rules s.latest mine s.told p frame (begins.goes p below) numbered makes_here fits_frame;
     numbers = room;
     inside = picked_inside rules.flows rules.count (rules.begin p) marks c new frame sending picked;
     fits = are_of_one rules s.latest mine s.told p frame makes_here fits_frame;
@@ -132,8 +141,8 @@ module _ (o : Origin) (rules : Rules) (digest : ℕ) (begins : BeginsWith o rule
   }
 
 -- the same, as the cell's calls say it
-pub may_be_written_by : (o : Origin) (rules : Rules) (digest : ℕ) → BeginsWith o rules digest → (s : StoreView) → HaveMade rules s.trail → (p : ℕ) → p < rules.count → (c new : CellView) → Joined rules s p c → HasFacts rules.flows rules.count (rules.begin c.number) c
+pub may_be_written_by : (o : Origin) (rules : Rules) → HasBegun o rules → (s : StoreView) → HaveMade rules s.trail → (p : ℕ) → p < rules.count → (c new : CellView) → Joined rules s p c → HasFacts rules.flows rules.count (rules.begin c.number) c
     → (marks : Marks) (frame : List Entry) (sending : List Sending) → HasPicked rules.flows rules.count (rules.begin c.number) marks c frame sending new → MayBeWritten o rules s p frame (all_sent sending)
-may_be_written_by o rules digest begins s made p below c new joined facts marks frame sending picked =
-    may_be_written o rules digest begins s made p below c new joined (subst (λ (n : ℕ). HasFacts rules.flows rules.count (rules.begin n) c) joined.goes.number facts) marks frame sending
+may_be_written_by o rules begins s made p below c new joined facts marks frame sending picked =
+    may_be_written o rules begins s made p below c new joined (subst (λ (n : ℕ). HasFacts rules.flows rules.count (rules.begin n) c) joined.goes.number facts) marks frame sending
     (subst (λ (n : ℕ). HasPicked rules.flows rules.count (rules.begin n) marks c frame sending new) joined.goes.number picked)

@@ -1,24 +1,23 @@
 -- Where a call begins, as far as it is known whatever the disk tells.
-use Rattle.std.specs.Prelude.{◌≡◌, ◌<◌, ℕ, false, Some}
+use Rattle.std.specs.Prelude.{◌≡◌, ◌<◌, ◌≤◌, ℕ, [], false, Some}
 use Rattle.dura_model.specs.Partition.{fresh}
+use Rattle.hub_store.specs.Frames.{goes_on}
 use Rattle.hub_store.specs.Origin.{Origin}
-use Rattle.many_logs.specs.Labels.{AllGiven, AreNumbered}
-use Rattle.many_logs.specs.Placing.{AllBelow, of_partition, states_after}
-use Rattle.many_rules.specs.Leaves.{header_at}
+use Rattle.many_logs.specs.Labels.{AreNumbered, state_next}
+use Rattle.many_logs.specs.Placing.{AllBelow, states_after}
 use Rattle.many_rules.specs.Rules.{Rules}
+use Rattle.part_items.specs.Numbered.{Next}
 
--- Each partition's log is under the flows file's digest and has the entries that were recovered of it, one position after another; these
--- were accepted in an order and made the states, each outcome one that its activity may give. The call serves nobody: it takes what
--- comes.
-pub record BeginsWith (o : Origin) (rules : Rules) (digest : ℕ) : Type 0 where
-  pub headers : (partition : ℕ) → partition < rules.count → (o.logs partition).header ≡ header_at rules.count digest partition
-  pub theirs : (partition : ℕ) → partition < rules.count → of_partition partition rules.recovered ≡ (o.logs partition).entries
+-- A log goes on at the position where a state does, and in no later incarnation.
+pub record GoesOnAt (log state : Next) : Type 0 where
+  pub position : log.position ≡ state.position
+  pub incarnation : log.incarnation ≤ state.incarnation
+
+-- Entries were accepted in an order and made the states, each at the next position of its partition; each partition's log goes on where
+-- its state does. The call serves nobody: it takes what comes.
+pub record HasBegun (o : Origin) (rules : Rules) : Type 0 where
+  pub goes : (partition : ℕ) → partition < rules.count → GoesOnAt (goes_on (o.logs partition) []) (state_next (rules.begin partition))
   pub below : AllBelow rules.count rules.recovered
   pub made : states_after rules.flows rules.count fresh rules.recovered ≡ Some rules.begin
-  pub given : AllGiven rules.flows rules.count fresh rules.recovered
   pub numbered : AreNumbered fresh rules.recovered
   pub silent : rules.serves ≡ false
-
--- under some digest
-abbrev pub HasBegun : Origin → Rules → Type 0
-HasBegun o rules = (digest : ℕ) × BeginsWith o rules digest

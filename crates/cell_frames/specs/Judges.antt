@@ -1,5 +1,6 @@
 -- What judging a cell changes.
-use Rattle.std.specs.Prelude.{◌≡◌, ℕ, [], ◌∷◌, ◌++◌}
+use Rattle.std.specs.Prelude.{◌≡◌, ℕ}
+use Rattle.cell_frames.specs.Beginning.{BeginsAt}
 use Rattle.cell_frames.specs.Unlost.{floor_of}
 use Rattle.many_rules.specs.Rules.{Rules}
 use Rattle.spec_cell.specs.Moves.{CellRewinds}
@@ -11,7 +12,7 @@ use Rattle.cell_frames.specs.Joined.{StoreView}
 
 -- what the store has of a partition's incarnations once the cell was rewound: one more that begins there; else the same
 abbrev pub KnowsRewind : (partition : ℕ) → (old new : StoreView) → CellRewind → (after : CellView) → Type 0
-KnowsRewind partition old new (rewinds.Rewound floor dep) after = new.floors partition ≡ old.floors partition ++ floor_of after floor ∷ []
+KnowsRewind partition old new (rewinds.Rewound floor dep) after = BeginsAt partition (floor_of after floor) old new
 KnowsRewind partition old new other after = new ≡ old
 
 -- The cell is rewound, or isn't, and the store knows of it.

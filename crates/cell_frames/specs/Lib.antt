@@ -1,3 +1,4 @@
+pub mod Beginning
 pub mod Begun
 pub mod Joined
 pub mod Judges

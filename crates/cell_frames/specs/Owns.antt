@@ -1,5 +1,6 @@
 -- What opening a partition's log again changes, and what giving up all that its cell holds does.
-use Rattle.std.specs.Prelude.{◌≡◌, ℕ, [], ◌∷◌, ◌++◌, Result, Ok, Err}
+use Rattle.std.specs.Prelude.{◌≡◌, ℕ, Result, Ok, Err}
+use Rattle.cell_frames.specs.Beginning.{BeginsAt}
 use Rattle.cell_frames.specs.Joined.{StoreView}
 use Rattle.cell_frames.specs.Settles.{IsOnTrail}
 use Rattle.cell_frames.specs.Unlost.{floor_of}
@@ -20,15 +21,15 @@ use Rattle.spec_cell.specs.declared.moving.CellReset.TheVariants as resets
 -- nothing is settled; or the disk failed, and nothing is settled; or memory ran out behind a settled frame.
 abbrev pub Opens : Rules → (partition : ℕ) → Mode → (old new : StoreView) → (c : CellView) → Result Reopened SettleRefusal → (after : CellView) → Type 0
 Opens rules partition mode old new c (Ok (reopenings.Settled packets)) after =
-    IsOnTrail partition old new c × HasSettled c.out after.slot c after × SendsSettled rules.flows rules.count (rules.begin partition) mode c after packets.items
-Opens rules partition mode old new c (Ok reopenings.Dropped) after = (new.stage partition ≡ stages.Resting) × (new.trail ≡ old.trail) × (after ≡ record c { out = 0 })
+    IsOnTrail partition old new c × HasSettled c.out after.slot c after × SendsSettled rules.flows rules.count (rules.begin partition) mode c after packets.items × (new.floors ≡ old.floors)
+Opens rules partition mode old new c (Ok reopenings.Dropped) after = (new.stage partition ≡ stages.Resting) × (new.trail ≡ old.trail) × (after ≡ record c { out = 0 }) × (new.floors ≡ old.floors)
 Opens rules partition mode old new c (Err refusals.NoFrame) after = ⊥
 Opens rules partition mode old new c (Err refusals.SiteFault) after = (after ≡ c) × (new.trail ≡ old.trail)
 Opens rules partition mode old new c (Err refusals.Memory) after = IsOnTrail partition old new c
 
 -- what the store has of a partition's incarnations once the cell gave all up: one more that begins there
 abbrev pub KnowsReset : (partition floor : ℕ) → (old new : StoreView) → CellReset → (after : CellView) → Type 0
-KnowsReset partition floor old new resets.Done after = new.floors partition ≡ old.floors partition ++ floor_of after floor ∷ []
+KnowsReset partition floor old new resets.Done after = BeginsAt partition (floor_of after floor) old new
 KnowsReset partition floor old new (resets.Spent number) after = new ≡ old
 
 -- All that the cell holds is given up, and the store knows of it.

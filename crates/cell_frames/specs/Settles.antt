@@ -24,7 +24,7 @@ pub record IsOnTrail (partition : ℕ) (old new : StoreView) (c : CellView) : Ty
 -- opened, and nothing changes; or the disk failed, and nothing is settled; or memory ran out behind it.
 abbrev pub SettlesFrame : Rules → (partition : ℕ) → Mode → (old new : StoreView) → (c after : CellView) → Result (Vec Packet Global) SettleRefusal → Type 0
 SettlesFrame rules partition mode old new c after (Ok packets) =
-    IsOnTrail partition old new c × HasSettled c.out after.slot c after × SendsSettled rules.flows rules.count (rules.begin partition) mode c after packets.items
+    IsOnTrail partition old new c × HasSettled c.out after.slot c after × SendsSettled rules.flows rules.count (rules.begin partition) mode c after packets.items × (new.floors ≡ old.floors)
 SettlesFrame rules partition mode old new c after (Err refusals.NoFrame) = (is_open (old.stage partition) ≡ false) × (after ≡ c) × (new ≡ old)
 SettlesFrame rules partition mode old new c after (Err refusals.SiteFault) = (after ≡ c) × (new.trail ≡ old.trail)
 SettlesFrame rules partition mode old new c after (Err refusals.Memory) = IsOnTrail partition old new c

@@ -39,16 +39,17 @@ pub record MayBeWritten (o : Origin) (rules : Rules) (s : StoreView) (partition 
 abbrev pub KeepsOthers : Rules → (partition : ℕ) → (old new : StoreView) → Type 0
 KeepsOthers rules partition old new = (other : ℕ) → other ≢ partition → (c : CellView) → Joined rules old other c → Joined rules new other c
 
--- The first entries of the cell that may go are out and under way, and nothing was settled.
+-- The first entries of the cell that may go are out and under way, nothing was settled, and no incarnation began.
 pub record HasWritten (rules : Rules) (partition : ℕ) (marks : Marks) (old new : StoreView) (c after : CellView) : Type 0 where
   pub frame : List Entry
   pub sending : List Sending
   pub picked : HasPicked rules.flows rules.count (rules.begin partition) marks c frame sending after
   pub trail : new.trail ≡ old.trail
+  pub floors : new.floors ≡ old.floors
 
--- nothing changed in the cell, and nothing was settled
+-- nothing changed in the cell, nothing was settled, and no incarnation began
 abbrev pub IsUnwritten : (old new : StoreView) → (c after : CellView) → Type 0
-IsUnwritten old new c after = (after ≡ c) × (new.trail ≡ old.trail)
+IsUnwritten old new c after = (after ≡ c) × (new.trail ≡ old.trail) × (new.floors ≡ old.floors)
 
 -- A frame is written, and its body isn't safe yet; or none may go, and nothing changes; or it isn't written, and comes back; or the disk failed,
 -- and how much of it was written isn't known.

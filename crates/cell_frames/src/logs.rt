@@ -1,11 +1,12 @@
 //! Laws of where frames go. The functions do nothing.
 
-ghost use Rattle.std.specs.Prelude.{ℕ, List, ◌++◌};
+ghost use Rattle.std.specs.Prelude.{ℕ, List, []};
 ghost use Rattle.std.specs.List.{All};
+ghost use Rattle.cell_frames.specs.Begun.{GoesOnAt};
 ghost use Rattle.commit_gate.specs.Keeping.{GoesInside, AreOfOne};
 ghost use Rattle.commit_gate.specs.Views.{all_sent};
 ghost use Rattle.commit_gate.specs.declared.ledger.Sending.{Sending};
-ghost use Rattle.dura_model.specs.Partition.{Partition, fresh};
+ghost use Rattle.dura_model.specs.Partition.{Partition};
 ghost use Rattle.dura_value.specs.Items.{Entry};
 ghost use Rattle.flow_syntax.specs.Syntax.{Flows};
 ghost use Rattle.hub_store.specs.Frames.{goes_on, GoesBehind};
@@ -13,8 +14,6 @@ ghost use Rattle.hub_store.specs.Origin.{Origin};
 ghost use Rattle.hub_store.specs.Trail.{Said};
 ghost use Rattle.log_items.specs.Entries.{items_in};
 ghost use Rattle.many_logs.specs.Labels.{state_next};
-ghost use Rattle.many_logs.specs.Placing.{of_partition};
-ghost use Rattle.many_rules.specs.Leaves.{Begins};
 ghost use Rattle.many_rules.specs.Makes.{Makes};
 ghost use Rattle.many_rules.specs.Rules.{Rules};
 ghost use Rattle.part_items.specs.ItemFits.{FitsFrame};
@@ -23,12 +22,13 @@ ghost use Rattle.spec_cell.specs.Picks.{HasPicked};
 ghost use Rattle.spec_cell.specs.Views.{CellView};
 ghost use Rattle.spec_tracker.specs.declared.marks.Marks.{Marks};
 
-/// A frame that its partition may make is written and read again where its log goes on, where it can be written at all and what the log has
-/// is numbered.
+/// A frame that its partition may make is written and read again where its log goes on, where it can be written at all, the log goes on where
+/// the state began, and what was settled behind that is numbered.
 pub fn frames_go_behind_their_logs()
-    ensures { (o : Origin) (rules : Rules) (digest latest : ℕ) (mine : List Entry) (told : List Said)
-        (partition : ℕ) (going : List Entry) → Begins o rules digest
-        → IsNumbered (state_next (fresh partition)) (of_partition partition rules.recovered ++ mine)
+    ensures { (o : Origin) (rules : Rules) (latest : ℕ) (mine : List Entry) (told : List Said)
+        (partition : ℕ) (going : List Entry)
+        → GoesOnAt (goes_on (o.logs partition) []) (state_next (rules.begin partition))
+        → IsNumbered (state_next (rules.begin partition)) mine
         → Makes rules latest mine told partition going → FitsFrame going
         → GoesBehind (goes_on (o.logs partition) mine) going }
 {}

@@ -10,6 +10,7 @@ ghost use Rattle.cell_frames.specs.Owns.{Opens, GivesUp};
 ghost use Rattle.hub_store.specs.Trail.{of_part};
 ghost use Rattle.commit_gate.specs.Ledgers.{log_length};
 ghost use Rattle.cell_frames.specs.Writes.{KeepsOthers};
+ghost use Rattle.gated_store.specs.Keeps.{KeepsGate};
 ghost use Rattle.gated_store.specs.Kept.{IsKept};
 ghost use Rattle.many_rules.specs.Ledgers.{ledgers, readers};
 ghost use Rattle.many_rules.specs.Makes.{Makes};
@@ -28,6 +29,7 @@ use spec_cell::{Cell, CellReset};
 use std::alloc::{AllocError, Global};
 
 /// What came of opening a partition's log again.
+#[derive(Drop)]
 pub enum Reopened {
     /// The frame that was under way is settled, and this goes out by now.
     Settled(Vec<Packet>),
@@ -53,6 +55,7 @@ pub fn reopen_cell<V: Site, M: Picked>(
     requires joined { Joined M.rules (view_of store.old) part cell.old }
     ensures kept { IsKept M.origin.count (ledgers M.rules) (readers M.rules) (Makes M.rules)
         store.new }
+    ensures keeps { KeepsGate part store.old store.new }
     ensures joined { cell.new.going ≡ true → Joined M.rules (view_of store.new) part cell.new }
     ensures others { KeepsOthers M.rules part (view_of store.old) (view_of store.new) }
     ensures opens { Opens M.rules part mode (view_of store.old) (view_of store.new) cell.old result
@@ -70,6 +73,8 @@ pub fn reopen_cell<V: Site, M: Picked>(
         (gate_of (way_of store.old.logs.ways.items part)) ≢ open_gate }
     ensures fault { result ≡ Err SettleRefusal.SiteFault → HasRisen
         (V.disk_faults store.old.logs.site) (V.disk_faults store.new.logs.site) }
+    ensures halts { result ≢ Err SettleRefusal.SiteFault → store.old.logs.halted ≡ false
+        → store.new.logs.halted ≡ false }
 {
     if !cell.is_going() {
         return Err(SettleRefusal::Memory);

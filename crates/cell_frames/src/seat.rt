@@ -52,7 +52,7 @@ impl<M: Picked> Seat<M> {
     }
 
     /// Lets go of it.
-    pub(crate) fn let_go(self) {
+    pub fn let_go(self) {
         let Seat {
             number: _,
             mark,

@@ -5,6 +5,7 @@ ghost use Rattle.cell_frames.specs.Begun.{HasBegun};
 ghost use Rattle.cell_frames.specs.Joined.{Joined, view_of};
 ghost use Rattle.cell_frames.specs.Writes.{KeepsOthers};
 ghost use Rattle.cell_frames.specs.Settles.{SettlesFrame};
+ghost use Rattle.gated_store.specs.Keeps.{KeepsGate};
 ghost use Rattle.gated_store.specs.Kept.{IsKept};
 ghost use Rattle.many_rules.specs.Ledgers.{ledgers, readers};
 ghost use Rattle.many_rules.specs.Makes.{Makes};
@@ -51,6 +52,7 @@ pub fn settle_frame<V: Site, M: Picked>(
     requires joined { Joined M.rules (view_of store.old) part cell.old }
     ensures kept { IsKept M.origin.count (ledgers M.rules) (readers M.rules) (Makes M.rules)
         store.new }
+    ensures keeps { KeepsGate part store.old store.new }
     ensures joined { cell.new.going ≡ true → Joined M.rules (view_of store.new) part cell.new }
     ensures others { KeepsOthers M.rules part (view_of store.old) (view_of store.new) }
     ensures settles { SettlesFrame M.rules part mode (view_of store.old) (view_of store.new)
@@ -58,6 +60,8 @@ pub fn settle_frame<V: Site, M: Picked>(
     ensures going { cell.new.going ≡ false → result ≡ Err SettleRefusal.Memory }
     ensures no_frame { result ≡ Err SettleRefusal.NoFrame
         ↔ is_open (stage_at store.old.logs part) ≡ false }
+    ensures unchanged { result ≡ Err SettleRefusal.NoFrame
+        → (store.new ≡ store.old) × (cell.new ≡ cell.old) }
     ensures fault { result ≡ Err SettleRefusal.SiteFault → HasRisen
         (V.disk_faults store.old.logs.site) (V.disk_faults store.new.logs.site) }
     ensures halts { result ≢ Err SettleRefusal.SiteFault → store.new.logs.halted ≡ false }

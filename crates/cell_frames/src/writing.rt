@@ -5,6 +5,7 @@ ghost use Rattle.cell_frames.specs.Begun.{HasBegun};
 ghost use Rattle.cell_frames.specs.Joined.{Joined, view_of};
 ghost use Rattle.cell_frames.specs.Writes.{Writes, IsFull, KeepsOthers};
 ghost use Rattle.hub_store.specs.Ways.{way_of};
+ghost use Rattle.gated_store.specs.Keeps.{KeepsGate};
 ghost use Rattle.gated_store.specs.Kept.{IsKept};
 ghost use Rattle.many_rules.specs.Ledgers.{ledgers, readers};
 ghost use Rattle.many_rules.specs.Makes.{Makes};
@@ -38,6 +39,7 @@ pub fn write_frame<V: Site, M: Picked>(
     requires joined { Joined M.rules (view_of store.old) part cell.old }
     ensures kept { IsKept M.origin.count (ledgers M.rules) (readers M.rules) (Makes M.rules)
         store.new }
+    ensures keeps { KeepsGate part store.old store.new }
     ensures joined { Joined M.rules (view_of store.new) part cell.new }
     ensures others { KeepsOthers M.rules part (view_of store.old) (view_of store.new) }
     ensures writes { Writes M.rules part marks.now (view_of store.old) (view_of store.new) cell.old

@@ -6,17 +6,15 @@ use Rattle.dura_model.proofs.Basics.{eqb_apart}
 use Rattle.dura_model.proofs.Kept.{fresh_shown}
 use Rattle.dura_model.specs.Entries.{placed}
 use Rattle.dura_model.specs.Partition.{Partition, fresh}
-use Rattle.dura_value.proofs.Basics.{some_same}
 use Rattle.dura_value.specs.Items.{Entry}
 use Rattle.gated_store.specs.Follows.{Follows as GateFollows}
 use Rattle.gated_store.specs.Kept.{Grown}
 use Rattle.gated_store.specs.Kept.Grown.{nothing, one_more}
 use Rattle.hub_store.proofs.Settling.{of_part-append, own_part, no_part}
 use Rattle.hub_store.specs.Trail.{Settled, Said, of_part, settling}
-use Rattle.many_logs.proofs.Frames.{of_both, below_both, below_at, put_then, given_both}
-use Rattle.many_logs.proofs.Leads.{commits_lead}
+use Rattle.many_logs.proofs.Frames.{of_both, below_both, below_at, put_then}
 use Rattle.many_logs.proofs.Own.{own_chain}
-use Rattle.many_logs.specs.Labels.{AllGiven, AreNumbered, state_next}
+use Rattle.many_logs.specs.Labels.{AreNumbered, state_next}
 use Rattle.many_logs.specs.Placing.{Commit, states_after, of_partition, AllBelow, commits_at}
 use Rattle.many_rules.proofs.GateMoments.{goes_behind}
 use Rattle.many_rules.proofs.Meeting.{gate_follows}
@@ -27,9 +25,10 @@ use Rattle.many_rules.specs.Makes.{Makes}
 use Rattle.many_rules.specs.Rules.{Rules, commits_of, Follows}
 use Rattle.part_items.proofs.Behind.{numbered_both}
 use Rattle.part_items.specs.Numbered.{Next, behind_all, IsNumbered}
+use Rattle.trail_states.proofs.Shown.{commits_keep}
 use Rattle.trail_states.specs.HaveMade.{HaveMade}
 
-module _ (rules : Rules) (made : states_after rules.flows rules.count fresh rules.recovered ≡ Some rules.begin) (low : AllBelow rules.count rules.recovered) (first : AreNumbered fresh rules.recovered) (outcomes : AllGiven rules.flows rules.count fresh rules.recovered) where
+module _ (rules : Rules) (made : states_after rules.flows rules.count fresh rules.recovered ≡ Some rules.begin) (low : AllBelow rules.count rules.recovered) (first : AreNumbered fresh rules.recovered) where
   -- all that was recovered and settled
   abbrev whole : List Settled → List Commit
   whole trail = rules.recovered ++ commits_of trail
@@ -38,7 +37,6 @@ module _ (rules : Rules) (made : states_after rules.flows rules.count fresh rule
   record Comes (trail : List Settled) : Type 0 where
     states : ℕ → Partition
     all : states_after rules.flows rules.count rules.begin (commits_of trail) ≡ Some states
-    given : AllGiven rules.flows rules.count rules.begin (commits_of trail)
     below : AllBelow rules.count (commits_of trail)
     numbered : AreNumbered fresh (whole trail)
 
@@ -89,7 +87,7 @@ module _ (rules : Rules) (made : states_after rules.flows rules.count fresh rule
       goes q = by q (partition == q) refl
 
   comes_on : {trail : List Settled} → Grown (ledgers rules) (Makes rules) trail → Comes trail
-  comes_on nothing = record { states = rules.begin; all = refl; given = tt; below = tt; numbered = subst (AreNumbered fresh) (sym (append-nil rules.recovered)) first }
+  comes_on nothing = record { states = rules.begin; all = refl; below = tt; numbered = subst (AreNumbered fresh) (sym (append-nil rules.recovered)) first }
   comes_on (one_more {trail} latest told partition at going before follows) =
       let b = comes_on before in
       let may : Follows rules latest trail told partition going = gate_follows rules made latest trail told partition going b.numbered follows in
@@ -99,8 +97,6 @@ module _ (rules : Rules) (made : states_after rules.flows rules.count fresh rule
       record {
         states = after.0;
         all = subst (λ (l : List Commit). states_after rules.flows rules.count rules.begin l ≡ Some after.0) is (put_then rules.flows rules.count rules.begin b.states after.0 (commits_of trail) (commits_at partition going) b.all after.1);
-        given = subst (AllGiven rules.flows rules.count rules.begin) is (given_both rules.flows rules.count (commits_of trail) (commits_at partition going) rules.begin b.given
-            (λ middle all. subst (λ (f : ℕ → Partition). AllGiven rules.flows rules.count f (commits_at partition going)) (some_same (sym b.all ∙ all)) next.given));
         below = subst (AllBelow rules.count) is (below_both rules.count (commits_of trail) (commits_at partition going) b.below (below_at rules.count partition going may.below));
         numbered = numbered_more latest trail told partition at going b follows;
       }
@@ -108,13 +104,10 @@ module _ (rules : Rules) (made : states_after rules.flows rules.count fresh rule
   pub makes_states : (trail : List Settled) → Grown (ledgers rules) (Makes rules) trail → HaveMade rules trail
   makes_states trail grown =
       let c = comes_on grown in
-      let given : AllGiven rules.flows rules.count fresh (whole trail) = given_both rules.flows rules.count rules.recovered (commits_of trail) fresh outcomes
-      (λ middle all. subst (λ (f : ℕ → Partition). AllGiven rules.flows rules.count f (commits_of trail)) (some_same (sym made ∙ all)) c.given) in
-      let lead = commits_lead rules.flows rules.count (whole trail) fresh c.states (fresh_shown rules.count) (below_both rules.count rules.recovered (commits_of trail) low c.below) c.numbered given (all_made trail c.states c.all) in
       record {
         states = c.states;
         made = c.all;
-        shown = lead.shown_still;
+        shown = commits_keep rules.flows rules.count (whole trail) fresh c.states (fresh_shown rules.count) (below_both rules.count rules.recovered (commits_of trail) low c.below) c.numbered (all_made trail c.states c.all);
         numbered = c.numbered;
         each = λ p inside. ap (placed rules.flows rules.count (rules.begin p)) (sym (puts_part p trail)) ∙ own_chain rules.flows rules.count (commits_of trail) rules.begin c.states p c.all;
       }

@@ -4,7 +4,7 @@ ghost use Rattle.std.specs.Prelude.{◌≡◌, ◌<◌, ◌≤◌, ◌+◌, ℕ,
 ghost use Rattle.dura_model.specs.Partition.{fresh};
 ghost use Rattle.gated_store.specs.Kept.{Grown};
 ghost use Rattle.hub_store.specs.Trail.{Settled, of_part};
-ghost use Rattle.many_logs.specs.Labels.{AllGiven, AreNumbered};
+ghost use Rattle.many_logs.specs.Labels.{AreNumbered};
 ghost use Rattle.many_logs.specs.Placing.{states_after, AllBelow};
 ghost use Rattle.many_rules.specs.Ledgers.{ledgers};
 ghost use Rattle.many_rules.specs.Makes.{Makes};
@@ -17,7 +17,6 @@ pub fn trails_make_states()
     ensures { (rules : Rules) (trail : List Settled)
         → states_after rules.flows rules.count fresh rules.recovered ≡ Some rules.begin
         → AllBelow rules.count rules.recovered → AreNumbered fresh rules.recovered
-        → AllGiven rules.flows rules.count fresh rules.recovered
         → Grown (ledgers rules) (Makes rules) trail → HaveMade rules trail }
 {}
 
@@ -27,7 +26,6 @@ pub fn reads_stay_inside()
     ensures { (rules : Rules) (trail : List Settled) (reader source : ℕ)
         → states_after rules.flows rules.count fresh rules.recovered ≡ Some rules.begin
         → AllBelow rules.count rules.recovered → AreNumbered fresh rules.recovered
-        → AllGiven rules.flows rules.count fresh rules.recovered
         → Grown (ledgers rules) (Makes rules) trail
         → reader < rules.count → source < rules.count
         → (ledgers rules reader (of_part reader trail)).nexts source

@@ -16,7 +16,7 @@ restart-requires-clause-above g c =
     let facts = c.if-not-is_going.ensures.facts refl in
     let rewound = subst (λ r. CellRewinds rules.flows rules.count (rules.begin cell.number) c.args.marks.now cell r c.rewind.new.self) c.in-Ok-Rewound.field-0-is c.in-Ok-Rewound.ensures.rewinds in
     let above = rewound_above rules.flows rules.count (rules.begin cell.number) cell c.rewind.new.self facts c.args.marks.now c.in-Ok-Rewound.floor (identity_of c.in-Ok-Rewound.dep) rewound in
-    let long = base_here g.M.Picked.origin rules c.requires.begun.0 c.requires.begun.1 (view_of c.args.store.now) c.args.part c.requires.place cell c.requires.joined.goes facts.base facts.settled in
+    let long = base_here g.M.Picked.origin rules c.requires.begun (view_of c.args.store.now) c.args.part c.requires.place cell c.requires.joined.goes facts.base facts.settled in
     let out = no_more (view_of c.args.store.now) c.args.part cell c.requires.joined.out in
     omega (arith, above, long, out)
 
@@ -38,7 +38,7 @@ returns-in-Ok-clause-joined g c =
     let facts = c.if-not-is_going.ensures.facts refl in
     let from = c.in-Ok-Rewound.floor in
     let rewound = subst (λ r. CellRewinds rules.flows rules.count (rules.begin cell.number) c.args.marks.now cell r after) c.in-Ok-Rewound.field-0-is c.in-Ok-Rewound.ensures.rewinds in
-    let long = base_here g.M.Picked.origin rules c.requires.begun.0 c.requires.begun.1 (view_of old) c.args.part c.requires.place cell c.requires.joined.goes facts.base facts.settled in
+    let long = base_here g.M.Picked.origin rules c.requires.begun (view_of old) c.args.part c.requires.place cell c.requires.joined.goes facts.base facts.settled in
     let number = ap (λ v. v.number) rewound.becomes ∙ c.requires.joined.goes.number in
     let floors = c.in-Ok.ensures.floors ∙ ap (λ (f : Floor). floors_of old.ledgers.items c.args.part ++ f ∷ []) (floor_here c.args.part c.incarnation.result from after number c.incarnation.ensures) in
     rewound_joined rules c.args.part (view_of old) (view_of new) (ap (λ l. l.latest) logs) (ap told_in logs) (ap trail_in logs) cell after from floors rules.count (rules.begin cell.number) facts long c.requires.joined

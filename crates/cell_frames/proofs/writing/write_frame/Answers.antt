@@ -19,7 +19,7 @@ body-requires-clause-behind g c =
     let cell = c.args.cell.now in
     let picked = subst (λ o. Picks rules.flows rules.count (rules.begin cell.number) c.args.marks.now cell o c.pick.new.self) c.in-Some.is c.in-Ok.ensures.picks in
     let store = c.args.store.now in
-    let m = may_be_written_by g.M.Picked.origin rules c.requires.begun.0 c.requires.begun.1 (view_of store) (made_of g.M.Picked.origin rules c.requires.begun.0 g.M.Picked.origin.count store c.requires.begun.1 c.requires.kept) c.args.part c.requires.place
+    let m = may_be_written_by g.M.Picked.origin rules c.requires.begun (view_of store) (made_of g.M.Picked.origin rules g.M.Picked.origin.count store c.requires.begun c.requires.kept) c.args.part c.requires.place
     cell c.pick.new.self c.requires.joined (c.if-not-is_going.ensures.facts refl) c.args.marks.now (entries_of c.in-Some.frame) c.in-Some.sending.items picked in
     m.behind
 
@@ -29,7 +29,7 @@ body-requires-clause-numbers g c =
     let cell = c.args.cell.now in
     let picked = subst (λ o. Picks rules.flows rules.count (rules.begin cell.number) c.args.marks.now cell o c.pick.new.self) c.in-Some.is c.in-Ok.ensures.picks in
     let store = c.args.store.now in
-    let m = may_be_written_by g.M.Picked.origin rules c.requires.begun.0 c.requires.begun.1 (view_of store) (made_of g.M.Picked.origin rules c.requires.begun.0 g.M.Picked.origin.count store c.requires.begun.1 c.requires.kept) c.args.part c.requires.place
+    let m = may_be_written_by g.M.Picked.origin rules c.requires.begun (view_of store) (made_of g.M.Picked.origin rules g.M.Picked.origin.count store c.requires.begun c.requires.kept) c.args.part c.requires.place
     cell c.pick.new.self c.requires.joined (c.if-not-is_going.ensures.facts refl) c.args.marks.now (entries_of c.in-Some.frame) c.in-Some.sending.items picked in
     let room = m.numbers in let long = length-map c.in-Some.frame entry_of in omega (arith, room, long)
 
@@ -39,7 +39,7 @@ body-requires-clause-inside g c =
     let cell = c.args.cell.now in
     let picked = subst (λ o. Picks rules.flows rules.count (rules.begin cell.number) c.args.marks.now cell o c.pick.new.self) c.in-Some.is c.in-Ok.ensures.picks in
     let store = c.args.store.now in
-    let m = may_be_written_by g.M.Picked.origin rules c.requires.begun.0 c.requires.begun.1 (view_of store) (made_of g.M.Picked.origin rules c.requires.begun.0 g.M.Picked.origin.count store c.requires.begun.1 c.requires.kept) c.args.part c.requires.place
+    let m = may_be_written_by g.M.Picked.origin rules c.requires.begun (view_of store) (made_of g.M.Picked.origin rules g.M.Picked.origin.count store c.requires.begun c.requires.kept) c.args.part c.requires.place
     cell c.pick.new.self c.requires.joined (c.if-not-is_going.ensures.facts refl) c.args.marks.now (entries_of c.in-Some.frame) c.in-Some.sending.items picked in
     subst (λ (n : ℕ). All (GoesInside n) (all_sent c.in-Some.sending.items)) g.M.Picked.counts m.inside
 
@@ -49,7 +49,7 @@ body-requires-clause-fits g c =
     let cell = c.args.cell.now in
     let picked = subst (λ o. Picks rules.flows rules.count (rules.begin cell.number) c.args.marks.now cell o c.pick.new.self) c.in-Some.is c.in-Ok.ensures.picks in
     let store = c.args.store.now in
-    let m = may_be_written_by g.M.Picked.origin rules c.requires.begun.0 c.requires.begun.1 (view_of store) (made_of g.M.Picked.origin rules c.requires.begun.0 g.M.Picked.origin.count store c.requires.begun.1 c.requires.kept) c.args.part c.requires.place
+    let m = may_be_written_by g.M.Picked.origin rules c.requires.begun (view_of store) (made_of g.M.Picked.origin rules g.M.Picked.origin.count store c.requires.begun c.requires.kept) c.args.part c.requires.place
     cell c.pick.new.self c.requires.joined (c.if-not-is_going.ensures.facts refl) c.args.marks.now (entries_of c.in-Some.frame) c.in-Some.sending.items picked in
     subst (λ (n : ℕ). AreOfOne n (items_in (entries_of c.in-Some.frame))) g.M.Picked.counts m.fits
 
@@ -59,7 +59,7 @@ body-requires-clause-may g c =
     let cell = c.args.cell.now in
     let picked = subst (λ o. Picks rules.flows rules.count (rules.begin cell.number) c.args.marks.now cell o c.pick.new.self) c.in-Some.is c.in-Ok.ensures.picks in
     let store = c.args.store.now in
-    let m = may_be_written_by g.M.Picked.origin rules c.requires.begun.0 c.requires.begun.1 (view_of store) (made_of g.M.Picked.origin rules c.requires.begun.0 g.M.Picked.origin.count store c.requires.begun.1 c.requires.kept) c.args.part c.requires.place
+    let m = may_be_written_by g.M.Picked.origin rules c.requires.begun (view_of store) (made_of g.M.Picked.origin rules g.M.Picked.origin.count store c.requires.begun c.requires.kept) c.args.part c.requires.place
     cell c.pick.new.self c.requires.joined (c.if-not-is_going.ensures.facts refl) c.args.marks.now (entries_of c.in-Some.frame) c.in-Some.sending.items picked in
     m.may
 
@@ -69,7 +69,7 @@ body-requires-clause-makes g c =
     let cell = c.args.cell.now in
     let picked = subst (λ o. Picks rules.flows rules.count (rules.begin cell.number) c.args.marks.now cell o c.pick.new.self) c.in-Some.is c.in-Ok.ensures.picks in
     let store = c.args.store.now in
-    let m = may_be_written_by g.M.Picked.origin rules c.requires.begun.0 c.requires.begun.1 (view_of store) (made_of g.M.Picked.origin rules c.requires.begun.0 g.M.Picked.origin.count store c.requires.begun.1 c.requires.kept) c.args.part c.requires.place
+    let m = may_be_written_by g.M.Picked.origin rules c.requires.begun (view_of store) (made_of g.M.Picked.origin rules g.M.Picked.origin.count store c.requires.begun c.requires.kept) c.args.part c.requires.place
     cell c.pick.new.self c.requires.joined (c.if-not-is_going.ensures.facts refl) c.args.marks.now (entries_of c.in-Some.frame) c.in-Some.sending.items picked in
     m.makes
 
@@ -79,7 +79,7 @@ body-requires-clause-unlost g c =
     let cell = c.args.cell.now in
     let picked = subst (λ o. Picks rules.flows rules.count (rules.begin cell.number) c.args.marks.now cell o c.pick.new.self) c.in-Some.is c.in-Ok.ensures.picks in
     let store = c.args.store.now in
-    let m = may_be_written_by g.M.Picked.origin rules c.requires.begun.0 c.requires.begun.1 (view_of store) (made_of g.M.Picked.origin rules c.requires.begun.0 g.M.Picked.origin.count store c.requires.begun.1 c.requires.kept) c.args.part c.requires.place
+    let m = may_be_written_by g.M.Picked.origin rules c.requires.begun (view_of store) (made_of g.M.Picked.origin rules g.M.Picked.origin.count store c.requires.begun c.requires.kept) c.args.part c.requires.place
     cell c.pick.new.self c.requires.joined (c.if-not-is_going.ensures.facts refl) c.args.marks.now (entries_of c.in-Some.frame) c.in-Some.sending.items picked in
     m.unlost
 
