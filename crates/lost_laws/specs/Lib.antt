@@ -1,0 +1,2 @@
+pub mod DependsOn
+pub mod Examples
