@@ -1,0 +1,10 @@
+pub mod Begins
+pub mod Comes
+pub mod Formats
+pub mod Found
+pub mod Goes
+pub mod KeptRun
+pub mod Lives
+pub mod Picked
+pub mod Pushed
+pub mod Syncs

@@ -1,0 +1,86 @@
+//! What a life begins with, from the files of all partitions.
+
+ghost use Rattle.std.specs.Prelude.{◌≡◌, ◌≤◌, ◌<◌, Err, IfOk, IfErr};
+ghost use Rattle.open_logs.specs.Begun.{CanBegin, IsMade};
+ghost use Rattle.open_logs.specs.Moments.{OpensOnly};
+ghost use Rattle.open_logs.specs.Opened.{AllOpened};
+ghost use Rattle.open_logs.specs.Spent.{IsFirstSpent, WhyUnopened, OnlySynced};
+ghost use Rattle.site_model.specs.Calls.{HasRisen};
+ghost use Rattle.site_model.specs.History.{content_of};
+
+use crate::begun::Begun;
+use crate::error::OpenError;
+use crate::formatting::{Ready, open_each};
+use part_rows::Reactions;
+use recover_core::{Life, Opened, RecoverError, recover};
+use site_model::Site;
+use std::alloc::Global;
+
+/// The incarnations that no partition has.
+const INCARNATION_LIMIT: u64 = 1 << 62;
+
+/// The first partition whose incarnations are used up.
+fn first_spent(lives: &[Life]) -> Option<usize>
+    ensures { IsFirstSpent lives.now result }
+{
+    'places: for place in 0..lives.len() {
+        if lives[place].incarnation >= INCARNATION_LIMIT {
+            return Some(place);
+        }
+    }
+    None
+}
+
+/// Opens the logs of so many partitions: recovers them, and makes a log for each partition that has none. Where nothing is recovered, or a
+/// partition's incarnations are used up, no log is made.
+pub fn open_logs<V: Site, R: Reactions>(
+    alloc: Global,
+    site: &mut V,
+    reactions: &R,
+    digest: u64,
+    count: u32,
+) -> Result<Begun, OpenError>
+    requires some { 0 < count }
+    requires few { count ≤ 32 }
+    ensures tells { V.tells site.new → V.tells site.old }
+    ensures begins { IfOk result (CanBegin count) }
+    ensures placed { IfOk result (IsMade (R.flows reactions.now) count digest (V.tells site.new)
+        (λ file. content_of file (V.history site.old))) }
+    ensures opened { V.tells site.new → IfOk result (AllOpened (R.flows reactions.now) count digest
+        (λ file. content_of file (V.history site.old)) (V.history site.new)) }
+    ensures during { V.tells site.new → OpensOnly (R.flows reactions.now) count digest
+        (V.history site.old) (V.history site.new) }
+    ensures refuses { V.tells site.new → IfErr result (WhyUnopened (R.flows reactions.now) count
+        digest (λ file. content_of file (V.history site.old))) }
+    ensures synced { IfErr result (OnlySynced count (V.history site.old) (V.history site.new)) }
+    ensures fault { result ≡ Err (OpenError.Refused RecoverError.SiteFault)
+        → HasRisen (V.disk_faults site.old) (V.disk_faults site.new) }
+    ensures later { V.disk_faults site.old ≤ V.disk_faults site.new }
+    ensures say_faults { V.say_faults site.new ≡ V.say_faults site.old }
+{
+    let Opened { states, lives } = match recover(alloc, site, reactions, digest, count) {
+        Ok(opened) => opened,
+        Err(error) => return Err(OpenError::Refused(error)),
+    };
+    if let Some(place) = first_spent(&lives) {
+        return Err(OpenError::Spent {
+            partition: place as u32,
+            number: lives[place].incarnation,
+        });
+    }
+    let ready = match open_each(alloc, site, lives, digest, count) {
+        Ok(ready) => ready,
+        Err(error) => return Err(OpenError::Refused(error)),
+    };
+    let Ready {
+        logs,
+        pasts,
+        incarnations,
+    } = ready;
+    Ok(Begun {
+        states,
+        logs,
+        pasts,
+        incarnations,
+    })
+}
