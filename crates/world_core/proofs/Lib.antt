@@ -1,0 +1,10 @@
+pub mod Cells
+pub mod Happened
+pub mod KnownMarks
+pub mod KnownReaders
+pub mod Moved
+pub mod Names
+pub mod Said
+pub mod Settling
+pub mod Worlds
+pub mod Written

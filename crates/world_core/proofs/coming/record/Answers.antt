@@ -1,0 +1,12 @@
+use Rattle.world_core.proofs.Worlds.{alive, over}
+use Rattle.std.proofs.Common.{refl}
+use Rattle.world_core.proofs.coming.record.Goals as goal
+
+pub returns-in-Ok-Recorded-clause-stands : goal.returns-in-Ok-Recorded-clause-stands
+returns-in-Ok-Recorded-clause-stands g c = alive g.M.Picked.rules _ c.requires.stands _ _ c.requires.going c.record_at.ensures.many (c.in-Ok-Recorded.ensures.joined _)
+
+pub returns-in-Ok-NotPending-clause-stands : goal.returns-in-Ok-NotPending-clause-stands
+returns-in-Ok-NotPending-clause-stands g c = alive g.M.Picked.rules _ c.requires.stands _ _ c.requires.going c.record_at.ensures.many (c.in-Ok-NotPending.ensures.joined _)
+
+pub returns-in-Err-clause-stands : goal.returns-in-Err-clause-stands
+returns-in-Err-clause-stands g c = over g.M.Picked.rules _ c.requires.stands _ _ _ refl c.record_at.ensures.many

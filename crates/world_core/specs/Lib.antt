@@ -1,0 +1,4 @@
+pub mod Happens
+pub mod TakesOver
+pub mod Unmet
+pub mod World
