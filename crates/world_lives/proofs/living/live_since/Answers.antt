@@ -1,0 +1,51 @@
+use Rattle.std.proofs.Common.{◌≡◌, ℕ, List, refl, sym, subst}
+use Rattle.open_logs.proofs.KeptRun.{kept_by_other}
+use Rattle.open_logs.proofs.Picked.{origin_is}
+use Rattle.open_logs.specs.Begun.{AreTheirs}
+use Rattle.open_logs.specs.Moments.{OpensOnly}
+use Rattle.open_logs.specs.Picks.{files_of}
+use Rattle.part_steps.specs.States.{parts_in}
+use Rattle.site_model.specs.History.{Step, content_of}
+use Rattle.world_lives.specs.Begins.{rules_of}
+use Rattle.world_lives.proofs.Going.{has_begun, why_memory}
+use Rattle.world_lives.proofs.living.live_since.Goals as goal
+
+pub placed_by-placed-requires : goal.placed_by-placed-requires
+placed_by-placed-requires g c =
+    let made = c.in-Ok.ensures.placed in
+    let shape = c.args.shape in
+    (made.0, (made.1, λ tells. subst (λ (steps : List Step). AreTheirs shape.count shape.digest (λ file. content_of file steps) made.0) (sym c.requires.since) (made.2 tells)))
+
+pub live_named-requires-clause-made : goal.live_named-requires-clause-made
+live_named-requires-clause-made g c = c.placed_by-placed.ensures.0
+
+pub live_named-requires-clause-goes : goal.live_named-requires-clause-goes
+live_named-requires-clause-goes g c = has_begun (g.R.Reactions.flows c.args.reactions.now) c.args.shape.count c.args.shape.digest (g.V.Site.history c.open_logs.new.site) c.in-Ok.begun c.placed_by-placed.result.run c.placed_by-placed.ensures.0
+
+pub live_named-requires-clause-origin : goal.live_named-requires-clause-origin
+live_named-requires-clause-origin g c = origin_is c.args.shape.count c.args.shape.digest (files_of c.in-Ok.begun.logs.items) (g.V.Site.history c.open_logs.new.site) (parts_in c.in-Ok.begun.states.items)
+
+pub live_named-requires-clause-begun : goal.live_named-requires-clause-begun
+live_named-requires-clause-begun g c tells = (c.in-Ok.ensures.opened tells).rests
+
+pub returns-in-Ok-clause-lived : goal.returns-in-Ok-clause-lived
+returns-in-Ok-clause-lived g c = λ none.
+    let e = c.live_named.ensures in
+    let flows = g.R.Reactions.flows c.args.reactions.now in
+    let shape = c.args.shape in
+    let run = c.placed_by-placed.result.run in
+    let made = c.placed_by-placed.ensures in
+    record {
+      begun = c.in-Ok.begun;
+      run = run;
+      steps = g.V.Site.history c.open_logs.new.site;
+      made = made.0;
+      was = e.was none;
+      opening = λ tells. c.open_logs.ensures.during (e.tells tells);
+      crash = λ tells other kept.
+          let told = e.tells tells in
+          let files : ℕ → List ℕ = λ file. content_of file (g.V.Site.history c.args.site) in
+          let theirs = subst (λ (steps : List Step). AreTheirs shape.count shape.digest (λ file. content_of file steps) run) c.requires.since (made.1 told) in
+          let keeps = kept_by_other flows shape.count shape.digest files c.in-Ok.begun run made.0 theirs other kept in
+          e.crash tells none shape.digest ((c.in-Ok.ensures.opened told).begins (rules_of flows shape.count c.in-Ok.begun run) (record { flows_are = refl; count_is = refl; states = refl; kept = keeps }));
+    }
