@@ -1,0 +1,55 @@
+//! Laws. The functions do nothing.
+
+ghost use Rattle.std.specs.Prelude.{◌≡◌, ◌<◌, ◌++◌, ℕ, List, false, Some};
+ghost use Rattle.std.specs.List.{Contains};
+ghost use Rattle.cell_steps.specs.declared.mode.Mode.{Mode};
+ghost use Rattle.commit_gate.specs.Refused.{RefusesFirst};
+ghost use Rattle.commit_gate.specs.declared.unmet.Unmet.{Unmet};
+ghost use Rattle.dura_value.specs.Items.{Entry};
+ghost use Rattle.gated_store.specs.Follows.{ledgers_at};
+ghost use Rattle.log_items.specs.Entries.{items_in};
+ghost use Rattle.many_rules.specs.Ledgers.{ledgers};
+ghost use Rattle.many_rules.specs.Rules.{Rules};
+ghost use Rattle.world_core.specs.Happens.{Happens};
+ghost use Rattle.world_core.specs.World.{WorldView, Stands};
+ghost use Rattle.world_core.specs.declared.answer.Answer.{Answer};
+ghost use Rattle.world_core.specs.declared.answer.Answer.TheVariants as answers;
+ghost use Rattle.world_core.specs.declared.event.Event.{Event};
+ghost use Rattle.world_core.specs.declared.event.Event.TheVariants as events;
+ghost use Rattle.world_laws.specs.Lives.{IsNewLife, IsWell, GoesOn};
+ghost use Rattle.world_laws.specs.Made.{MadeEntry, AreMade, IsGrounded};
+
+/// What is picked passes: while a life goes on, nothing of a frame under way would be refused at its gate.
+pub fn picked_frames_pass()
+    ensures { (rules : Rules) (made : List MadeEntry) (w : WorldView) (partition : ℕ)
+        (going : List Entry) (why : Unmet) → w.ended ≡ false → Stands rules w
+        → IsGrounded rules w → AreMade rules made w → partition < rules.count
+        → w.store.going partition ≡ Some going
+        → RefusesFirst (ledgers_at (ledgers rules) w.store.trail) w.store.floors partition
+        (items_in going) why → ⊥ }
+{}
+
+/// So no gate ever refuses.
+pub fn no_gate_refuses()
+    ensures { (rules : Rules) (mode : Mode) (nodes : ℕ) (made : List MadeEntry)
+        (old new : WorldView) (partition : ℕ) (why : Unmet) → old.ended ≡ false
+        → Stands rules old → IsGrounded rules old → AreMade rules made old
+        → Happens rules mode nodes old (events.Gate partition) (answers.Refused why) new → ⊥ }
+{}
+
+/// Whatever happens, while the life goes on, all entries that were made so far are known still, and maybe more.
+pub fn made_entries_go_on()
+    ensures { (rules : Rules) (mode : Mode) (nodes : ℕ) (made : List MadeEntry)
+        (old new : WorldView) (event : Event) (answer : Answer) → old.ended ≡ false
+        → new.ended ≡ false → Stands rules old → Stands rules new → IsGrounded rules old
+        → IsGrounded rules new → AreMade rules made old
+        → Happens rules mode nodes old event answer new
+        → (more : List MadeEntry) × AreMade rules (made ++ more) new }
+{}
+
+/// In every life, whatever packets came again or late, and whatever was given up, no gate refused.
+pub fn no_life_refuses()
+    ensures { (rules : Rules) (mode : Mode) (nodes : ℕ) (first last : WorldView)
+        (came : List Answer) (why : Unmet) → IsWell rules first → IsNewLife rules first
+        → GoesOn rules mode nodes first came last → Contains came (answers.Refused why) → ⊥ }
+{}
