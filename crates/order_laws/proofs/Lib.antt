@@ -1,0 +1,4 @@
+pub mod Answered
+pub mod Known
+pub mod Orders
+pub mod Stands
