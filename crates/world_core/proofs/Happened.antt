@@ -101,7 +101,7 @@ module _ (rules : Rules) (mode : Mode) (old new : WorldView) where
   -- memory ran out where an outcome was looked at
   pub unlooked : (nodes : ℕ) (event : Event) (result : Answer) → result ≡ answers.Memory → is_outcome event ≡ true → EndsLife old new → Happens rules mode nodes old event result new
   unlooked nodes (events.Outcome partition ended) result is outcome ends = record {
-    unmet = λ unmet. inr (is, ends);
+    unmet = λ unmet. inr (outcome, is, ends);
     met = λ met. (λ same. let both = sym is ∙ same in cc both, subst (HasRecorded rules partition ended old new) (sym is) ends);
   }
   unlooked nodes other result is outcome ends = absurd (cc outcome)

@@ -43,7 +43,7 @@ use Rattle.spec_cell.specs.declared.coming.Recorded.TheVariants as records
 use Rattle.spec_cell.specs.declared.moving.CellRewind.TheVariants as rewinds
 use Rattle.spec_tracker.specs.declared.marks.Marks.{Marks}
 use Rattle.world_core.specs.TakesOver.{packets_in, TakesOver, CantTakeOver}
-use Rattle.world_core.specs.Unmet.{is_unmet, place_ago}
+use Rattle.world_core.specs.Unmet.{is_unmet, is_outcome, place_ago}
 use Rattle.world_core.specs.World.{WorldView, AreMarksOf}
 use Rattle.world_core.specs.declared.answer.Answer.{Answer}
 use Rattle.world_core.specs.declared.answer.Answer.TheVariants as answers
@@ -273,8 +273,8 @@ module _ (rules : Rules) where
   Makes mode old (events.Say name number) result new = HasSaid name number old new result
   Makes mode old events.Image result new = (result ≡ answers.Seen) × (new ≡ old)
 
-  -- An event that can't happen is Unmet and changes nothing, unless memory runs out where that is looked at; any other makes of the world what
-  -- its call does, which is never Unmet.
+  -- An event that can't happen is Unmet and changes nothing, unless memory runs out where an outcome is looked at; any other makes of the world
+  -- what its call does, which is never Unmet.
   pub record Happens (mode : Mode) (nodes : ℕ) (old : WorldView) (event : Event) (result : Answer) (new : WorldView) : Type 0 where
-    pub unmet : is_unmet rules.count nodes old event ≡ true → ((result ≡ answers.Unmet) × (new ≡ old)) ⊎ ((result ≡ answers.Memory) × EndsLife old new)
+    pub unmet : is_unmet rules.count nodes old event ≡ true → ((result ≡ answers.Unmet) × (new ≡ old)) ⊎ ((is_outcome event ≡ true) × (result ≡ answers.Memory) × EndsLife old new)
     pub met : is_unmet rules.count nodes old event ≡ false → (result ≢ answers.Unmet) × Makes mode old event result new

@@ -1,6 +1,6 @@
 -- The world in a life, as clauses see it.
 use Rattle.std.specs.Prelude.{◌≡◌, ◌≤◌, ◌<◌, ℕ, Bool, true, false, List, length, option_map, Some}
-use Rattle.std.specs.List.{Contains, slice_get, flat_map, range_with_len}
+use Rattle.std.specs.List.{All, Contains, slice_get, flat_map, range_with_len}
 use Rattle.cell_frames.specs.Joined.{StoreView, Joined, read_by, view_of}
 use Rattle.commit_gate.specs.Ledgers.{log_length, IsKnown}
 use Rattle.gated_store.specs.declared.local.Gated as gated_types
@@ -13,7 +13,7 @@ use Rattle.hub_store.specs.Trail.{of_part}
 use Rattle.many_rules.specs.Ledgers.{ledgers}
 use Rattle.many_rules.specs.Rules.{Rules}
 use Rattle.site_model.specs.declared.site.Site as sites
-use Rattle.spec_cell.specs.Views.{CellView}
+use Rattle.spec_cell.specs.Views.{CellView, HasFacts}
 use Rattle.spec_tracker.specs.Marks.{length_in, floors_of, read_in}
 use Rattle.spec_tracker.specs.declared.marks.Marks.{Marks}
 use Rattle.spec_tracker.specs.declared.marks.Read.{Read}
@@ -50,6 +50,10 @@ world store cells packets marks ended = record {
 -- each cell has a state, and is joined to the store
 abbrev pub AllJoined : Rules → StoreView → List CellView → Type 0
 AllJoined rules s cells = (partition : ℕ) (c : CellView) → slice_get cells partition ≡ Some c → (c.going ≡ true) × Joined rules s partition c
+
+-- what is known of a cell that has a state is known of each of these that has one
+abbrev pub AllKnown : Rules → List CellView → Type 0
+AllKnown rules = All (λ c. c.going ≡ true → HasFacts rules.flows rules.count (rules.begin c.number) c)
 
 -- no more is told of what was read than was
 abbrev pub AreHeard : Rules → StoreView → List Marks → Type 0
