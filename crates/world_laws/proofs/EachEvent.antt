@@ -39,14 +39,14 @@ module _ (rules : Rules) (mode : Mode) (nodes : ℕ) (made : List MadeEntry) (ol
 
   pub goes_on : (event : Event) (answer : Answer) → Happens rules mode nodes old event answer new → MadeOn rules made new
   goes_on event answer happens = elim (cases_Bool (is_unmet rules.count nodes old event)) [
-    | inl unmet ↦ elim (happens.unmet unmet) [ inl none ↦ same_world rules made old new are still none.1 | inr ends ↦ over rules made old new are still ends.1.ended ]
+    | inl unmet ↦ elim (happens.unmet unmet) [ inl none ↦ same_world rules made old new are still none.1 | inr ends ↦ over rules made old new are still ends.2.ended ]
     | inr met ↦ by_event event answer (or_parts (names_nothing rules.count nodes old event) (has_no_frame old event) (or_parts old.ended (names_nothing rules.count nodes old event || has_no_frame old event) met).1).0 (happens.met met).1
   ]
 
 -- the gate refuses nothing
 pub never_refused : (rules : Rules) (mode : Mode) (nodes : ℕ) (made : List MadeEntry) (old new : WorldView) → AreMade rules made old → old.ended ≡ false → Stands rules old → IsGrounded rules old → (p : ℕ) (why : Unmet) → Happens rules mode nodes old (events.Gate p) (answers.Refused why) new → ⊥
 never_refused rules mode nodes made old new are on stands ground p why happens = elim (cases_Bool (is_unmet rules.count nodes old (events.Gate p))) [
-  | inl unmet ↦ elim (happens.unmet unmet) [ inl none ↦ absurd (cc none.0) | inr ends ↦ absurd (cc ends.0) ]
+  | inl unmet ↦ elim (happens.unmet unmet) [ inl none ↦ absurd (cc none.0) | inr ends ↦ absurd (cc ends.1) ]
   | inr met ↦
       let named : names_nothing rules.count nodes old (events.Gate p) ≡ false = (or_parts (names_nothing rules.count nodes old (events.Gate p)) (has_no_frame old (events.Gate p)) (or_parts old.ended (names_nothing rules.count nodes old (events.Gate p) || has_no_frame old (events.Gate p)) met).1).0 in
       let below : p < rules.count = leb-false rules.count p named in

@@ -1,7 +1,8 @@
 -- What holds of a cell holds where the store is later, more entries were made, and it has the same entries.
-use Rattle.std.proofs.Common.{◌≡◌, ◌≢◌, ◌⊎◌, inl, inr, ◌<◌, ◌∙◌, ℕ, ◌+◌, List, length, Some, sym, subst, arith, slice_get, slice_set}
+use Rattle.std.proofs.Common.{◌≡◌, ◌≢◌, ◌⊎◌, inl, inr, ◌<◌, ◌∙◌, ℕ, ◌+◌, List, length, Some, sym, ap, subst, arith, slice_get, slice_set}
 use Rattle.std.specs.List.{All, Contains}
 use Rattle.std.proofs.lemmas.Bool.{cases_eq}
+use Rattle.std.proofs.lemmas.List.{length-set}
 use Rattle.std.proofs.lemmas.List.Elements.{All-weaker}
 use Rattle.cell_frames.specs.Joined.{StoreView}
 use Rattle.cell_waits.specs.Waits.{Waiting}
@@ -111,6 +112,9 @@ pub world_moves : (rules : Rules) (made made_new : List MadeEntry) (old new : Wo
     → ((marks : Marks) → Contains new.marks marks → Contains old.marks marks ⊎ MarksHold rules new.store marks)
     → AreMade rules made_new new
 world_moves rules made made_new old new p after below are later more cells numbered cell packets marks = record {
+  below = λ one there.
+      let long : length new.cells ≡ length old.cells = ap length cells ∙ length-set old.cells p after in
+      elim (cases_eq one.partition p) [ inl here ↦ omega (arith, here, below, long) | inr apart ↦ let low = are.below one (more.others one there apart) in omega (arith, low, long) ];
   numbered = λ one there. elim (cases_eq one.partition p) [ inl here ↦ numbered one there here | inr apart ↦ are.numbered one (more.others one there apart) ];
   cells = λ q c is.
       let set : slice_get (slice_set old.cells p after) q ≡ Some c = subst (λ (l : List CellView). slice_get l q ≡ Some c) cells is in
@@ -130,6 +134,7 @@ world_moves rules made made_new old new p after below are later more cells numbe
 -- the same with no other cell, where the store is later
 pub world_stays : (rules : Rules) (made : List MadeEntry) (old new : WorldView) → AreMade rules made old → Later rules old.store new.store → new.cells ≡ old.cells → new.packets ≡ old.packets → new.marks ≡ old.marks → AreMade rules made new
 world_stays rules made old new are later cells packets marks = record {
+  below = λ one there. subst (λ (l : List CellView). one.partition < length l) (sym cells) (are.below one there);
   numbered = are.numbered;
   cells = λ q c is.
       let before = are.cells q c (subst (λ (l : List CellView). slice_get l q ≡ Some c) cells is) in

@@ -1,3 +1,5 @@
+pub mod Current
+pub mod Depending
 pub mod EachEvent
 pub mod Events
 pub mod GivenUp
@@ -12,6 +14,7 @@ pub mod Naming
 pub mod Packets
 pub mod Passing
 pub mod Picked
+pub mod Placing
 pub mod Sending
 pub mod Settled
 pub mod Streams

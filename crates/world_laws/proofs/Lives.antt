@@ -48,6 +48,7 @@ new_cell rules s p c settled held waits = record {
 
 pub new_life : (rules : Rules) (w : WorldView) → IsNewLife rules w → AreMade rules [] w
 new_life rules w new = record {
+  below = λ one there. let none : there.0 < 0 = there.1 in absurd (omega (arith, none));
   numbered = λ one there. let none : there.0 < 0 = there.1 in absurd (omega (arith, none));
   cells = λ p c is. new_cell rules w.store p c (new.settled p c is) (new.held p c is) (new.waits p c is);
   packets = λ packet inside. let none : Contains [] packet = subst (λ (l : List Packet). Contains l packet) new.packets inside in let low : none.0 < 0 = none.1 in absurd (omega (arith, low));
@@ -82,7 +83,7 @@ module _ (rules : Rules) (mode : Mode) (nodes : ℕ) where
 
   -- where the life is over nothing changes
   unmet_then : (old new : WorldView) (event : Event) (answer : Answer) → old.ended ≡ true → Happens rules mode nodes old event answer new → ((answer ≡ answers.Unmet) × (new ≡ old)) ⊎ ((answer ≡ answers.Memory) × (new.ended ≡ true))
-  unmet_then old new event answer over happens = elim (happens.unmet (ap (λ b. b || (names_nothing rules.count nodes old event || has_no_frame old event)) over)) [ inl none ↦ inl none | inr ends ↦ inr (ends.0, ends.1.ended) ]
+  unmet_then old new event answer over happens = elim (happens.unmet (ap (λ b. b || (names_nothing rules.count nodes old event || has_no_frame old event)) over)) [ inl none ↦ inl none | inr ends ↦ inr (ends.1, ends.2.ended) ]
 
   -- the answer to an event isn't Refused
   not_refused : (old new : WorldView) (event : Event) (answer : Answer) (came : List Answer) → Known came old → Happens rules mode nodes old event answer new → (why : Unmet) → answer ≡ answers.Refused why → ⊥
@@ -92,7 +93,7 @@ module _ (rules : Rules) (mode : Mode) (nodes : ℕ) where
         let here : Happens rules mode nodes old event (answers.Refused why) new = subst (λ (a : Answer). Happens rules mode nodes old event a new) same happens in
         let made = known.made on in
         elim (cases_Bool (is_unmet rules.count nodes old event)) [
-          | inl unmet ↦ elim (here.unmet unmet) [ inl none ↦ absurd (cc none.0) | inr ends ↦ absurd (cc ends.0) ]
+          | inl unmet ↦ elim (here.unmet unmet) [ inl none ↦ absurd (cc none.0) | inr ends ↦ absurd (cc ends.1) ]
           | inr met ↦
               let gate = only_gates rules mode old new event why (here.met met).1 in
               never_refused rules mode nodes made.0 old new made.1 on known.well.stands (known.well.ground on) gate.0 why (subst (λ (e : Event). Happens rules mode nodes old e (answers.Refused why) new) gate.1 here)

@@ -51,7 +51,7 @@ named_each Q (first ∷ items) item e all inside names =
     ]
 
 -- an entry depends on all that its items name
-depends_named : (Q : Identity → Type 0) (before : Option Identity) (entry : Entry) → All Q (depends_on before entry) → All Q (named_by entry.items)
+pub depends_named : (Q : Identity → Type 0) (before : Option Identity) (entry : Entry) → All Q (depends_on before entry) → All Q (named_by entry.items)
 depends_named Q None entry all = all
 depends_named Q (Some one) entry all = All-tail Q one (named_by entry.items) all
 

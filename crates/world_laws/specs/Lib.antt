@@ -1,2 +1,3 @@
+pub mod Depends
 pub mod Lives
 pub mod Made

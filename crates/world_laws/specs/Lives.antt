@@ -6,7 +6,7 @@ use Rattle.many_rules.specs.Rules.{Rules}
 use Rattle.spec_cell.specs.Views.{CellView}
 use Rattle.spec_tracker.specs.declared.marks.Marks.{Marks}
 use Rattle.world_core.specs.Happens.{Happens}
-use Rattle.world_core.specs.World.{WorldView, Stands}
+use Rattle.world_core.specs.World.{WorldView, Stands, AreMarksOf}
 use Rattle.world_core.specs.declared.answer.Answer.{Answer}
 use Rattle.world_core.specs.declared.event.Event.{Event}
 use Rattle.world_laws.specs.Made.{MarksHold, IsGrounded}
@@ -18,6 +18,10 @@ pub record IsNewLife (rules : Rules) (w : WorldView) : Type 0 where
   pub waits : (partition : ℕ) (c : CellView) → slice_get w.cells partition ≡ Some c → c.waits ≡ []
   pub packets : w.packets ≡ []
   pub marks : (marks : Marks) → Contains w.marks marks → MarksHold rules w.store marks
+
+-- what is known of the logs last is as they are
+abbrev pub IsCurrent : Rules → WorldView → Type 0
+IsCurrent rules w = (before : List Marks) × (marks : Marks) × (w.marks ≡ before ++ marks ∷ []) × AreMarksOf rules w.store marks
 
 -- a world stands, and while it goes on what stands under it is known
 pub record IsWell (rules : Rules) (w : WorldView) : Type 0 where

@@ -7,13 +7,13 @@ use Rattle.commit_gate.specs.Met.{HasPosted}
 use Rattle.commit_gate.specs.Refused.{Names, IsReady}
 use Rattle.dura_model.specs.Entries.{placed}
 use Rattle.dura_model.specs.Partition.{Partition, fresh}
-use Rattle.dura_value.specs.Dependencies.{Lost, Ready}
+use Rattle.dura_value.specs.Dependencies.{named_by, Lost, Ready}
 use Rattle.dura_value.specs.Items.{Identity, Item, Entry, got, trim}
 use Rattle.dura_value.specs.Messages.{Message}
 use Rattle.dura_value.specs.Views.{message_of}
 use Rattle.gated_store.specs.Follows.{ledgers_at}
 use Rattle.gated_store.specs.Kept.{IsMade}
-use Rattle.hub_store.specs.Trail.{of_part}
+use Rattle.hub_store.specs.Trail.{Settled, of_part}
 use Rattle.log_items.specs.Entries.{items_in, identity_at}
 use Rattle.log_items.specs.declared.items.Packet.{Packet}
 use Rattle.many_logs.specs.Placing.{states_after, of_partition}
@@ -103,9 +103,11 @@ pub record MarksHold (rules : Rules) (s : StoreView) (marks : Marks) : Type 0 wh
   pub ready : (e : Identity) → e.partition < rules.count → Ready (length_in marks) (floors_of marks) e → IsReadyIn rules s e
   pub readers : (read : Read) → Contains marks.reads.items read → 0 < read.next → IsKnownIn rules s (record { partition = read.reader; incarnation = read.inc; position = read.pos })
 
--- All entries that were made in this life: each stands behind what was recovered and what stood before it; each cell has of them what it
--- should; each packet that was ever sent was sent by one; and all that was ever known of the logs is true still.
+-- All entries that were made in this life: each is of a partition that there is, and stands behind what was recovered and what stood before
+-- it; each cell has of them what it should; each packet that was ever sent was sent by one; and all that was ever known of the logs is true
+-- still.
 pub record AreMade (rules : Rules) (made : List MadeEntry) (w : WorldView) : Type 0 where
+  pub below : (one : MadeEntry) → Contains made one → one.partition < length w.cells
   pub numbered : (one : MadeEntry) → Contains made one → one.entry.position ≡ length (of_partition one.partition rules.recovered) + length one.front
   pub cells : (partition : ℕ) (c : CellView) → slice_get w.cells partition ≡ Some c → CellMade rules made w.store partition c
   pub packets : (packet : Packet) → Contains w.packets packet → IsSent rules made (record { partition = packet.src; incarnation = packet.inc; position = packet.pos }) packet.dst packet.seq (message_of packet.message)
@@ -114,9 +116,13 @@ pub record AreMade (rules : Rules) (made : List MadeEntry) (w : WorldView) : Typ
 -- ---- what stands under it
 
 -- What was recovered made the states that the call begins with, and what is settled made others of them; each frame under way may be
--- made by its partition's state; and so much is known of each cell.
+-- made by its partition's state; so much is known of each cell; nothing that was recovered or settled was given up, nor anything of a
+-- partition that isn't there; and what a settled entry names was recovered or settled.
 pub record IsGrounded (rules : Rules) (w : WorldView) : Type 0 where
   pub begun : states_after rules.flows rules.count fresh rules.recovered ≡ Some rules.begin
   pub have : HaveMade rules w.store.trail
   pub frames : (partition : ℕ) → partition < rules.count → IsMade (Makes rules) w.store.latest (of_part partition w.store.trail) w.store.told partition (w.store.going partition)
   pub facts : (partition : ℕ) (c : CellView) → slice_get w.cells partition ≡ Some c → HasFacts rules.flows rules.count (rules.begin partition) c
+  pub unlost : (e : Identity) → IsKnownIn rules w.store e → Lost (w.store.floors e.partition) e → ⊥
+  pub floors : (partition : ℕ) → rules.count ≤ partition → w.store.floors partition ≡ []
+  pub named : (one : Settled) (d : Identity) → Contains w.store.trail one → Contains (named_by one.entry.items) d → IsKnownIn rules w.store d

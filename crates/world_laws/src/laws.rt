@@ -1,7 +1,7 @@
 //! Laws. The functions do nothing.
 
 ghost use Rattle.std.specs.Prelude.{◌≡◌, ◌<◌, ◌++◌, ℕ, List, false, Some};
-ghost use Rattle.std.specs.List.{Contains};
+ghost use Rattle.std.specs.List.{Contains, slice_get};
 ghost use Rattle.cell_steps.specs.declared.mode.Mode.{Mode};
 ghost use Rattle.commit_gate.specs.Refused.{RefusesFirst};
 ghost use Rattle.commit_gate.specs.declared.unmet.Unmet.{Unmet};
@@ -11,12 +11,15 @@ ghost use Rattle.log_items.specs.Entries.{items_in};
 ghost use Rattle.many_rules.specs.Ledgers.{ledgers};
 ghost use Rattle.many_rules.specs.Rules.{Rules};
 ghost use Rattle.world_core.specs.Happens.{Happens};
-ghost use Rattle.world_core.specs.World.{WorldView, Stands};
+ghost use Rattle.spec_cell.specs.Views.{CellView};
+ghost use Rattle.spec_tracker.specs.declared.marks.Marks.{Marks};
+ghost use Rattle.world_core.specs.World.{WorldView, Stands, AreMarksOf};
 ghost use Rattle.world_core.specs.declared.answer.Answer.{Answer};
 ghost use Rattle.world_core.specs.declared.answer.Answer.TheVariants as answers;
 ghost use Rattle.world_core.specs.declared.event.Event.{Event};
 ghost use Rattle.world_core.specs.declared.event.Event.TheVariants as events;
-ghost use Rattle.world_laws.specs.Lives.{IsNewLife, IsWell, GoesOn};
+ghost use Rattle.world_laws.specs.Depends.{IsJudged, HoldsNothingLost};
+ghost use Rattle.world_laws.specs.Lives.{IsNewLife, IsCurrent, IsWell, GoesOn};
 ghost use Rattle.world_laws.specs.Made.{MadeEntry, AreMade, IsGrounded};
 
 /// What is picked passes: while a life goes on, nothing of a frame under way would be refused at its gate.
@@ -52,4 +55,21 @@ pub fn no_life_refuses()
     ensures { (rules : Rules) (mode : Mode) (nodes : ℕ) (first last : WorldView)
         (came : List Answer) (why : Unmet) → IsWell rules first → IsNewLife rules first
         → GoesOn rules mode nodes first came last → Contains came (answers.Refused why) → ⊥ }
+{}
+
+/// Once each cell was judged by what is known of the logs, and nothing was given up by that, no entry that a cell holds depends on one that
+/// was given up, through any number of entries between.
+pub fn judged_cells_hold_nothing_lost()
+    ensures { (rules : Rules) (made : List MadeEntry) (w : WorldView) (marks : Marks)
+        → w.ended ≡ false → Stands rules w → IsGrounded rules w → AreMade rules made w
+        → AreMarksOf rules w.store marks
+        → ((partition : ℕ) (c : CellView) → slice_get w.cells partition ≡ Some c
+        → IsJudged rules marks c) → HoldsNothingLost rules made w }
+{}
+
+/// Whatever happens, while the life goes on, what is known of the logs last is as they are.
+pub fn what_is_known_stays_current()
+    ensures { (rules : Rules) (mode : Mode) (nodes : ℕ) (old new : WorldView) (event : Event)
+        (answer : Answer) → old.ended ≡ false → new.ended ≡ false → IsCurrent rules old
+        → Happens rules mode nodes old event answer new → IsCurrent rules new }
 {}
