@@ -1,5 +1,5 @@
 -- A cell with nothing settled joins a store in which nothing happened.
-use Rattle.std.proofs.Common.{Vec, Global, ◌≡◌, ◌≤◌, ◌<◌, ◌∙◌, ◌++◌, ◌∷◌, ℕ, true, false, List, [], Option, Some, None, refl, sym, ap, subst, arith, slice_get, length, length-append, map, inl, inr}
+use Rattle.std.proofs.Common.{Vec, Global, ◌≡◌, ◌≤◌, ◌<◌, ◌∙◌, ◌++◌, ◌∷◌, ℕ, false, List, [], Some, None, refl, sym, ap, subst, arith, slice_get, length, length-append, map, inl, inr}
 use Rattle.std.specs.List.{All, Contains}
 use Rattle.std.proofs.Math.Nat.{le_of_eq}
 use Rattle.std.proofs.lemmas.List.Elements.{Contains-push_cases}
@@ -11,12 +11,11 @@ use Rattle.commit_gate.specs.Ledgers.{log_length}
 use Rattle.commit_gate.specs.Unlost.{IsFrameUnlost}
 use Rattle.commit_gate.specs.Views.{floors_of}
 use Rattle.commit_gate.specs.declared.ledger.Ledger.{Ledger}
-use Rattle.dura_model.specs.Partition.{Partition, fresh}
+use Rattle.dura_model.specs.Partition.{fresh}
 use Rattle.dura_value.specs.Items.{Entry, Floor}
-use Rattle.gated_store.specs.Kept.{IsKept}
 use Rattle.gated_store.specs.declared.local.Gated as gated_types
 use Rattle.gated_store.specs.declared.store.GatedStore.{GatedStore}
-use Rattle.hub_store.specs.Changes.{stage_at, going_at, trail_in}
+use Rattle.hub_store.specs.Changes.{stage_at, trail_in, told_in}
 use Rattle.hub_store.specs.Trail.{Settled, of_part}
 use Rattle.hub_store.specs.Ways.{stage_of, going_in, way_of}
 use Rattle.hub_store.specs.declared.start.Start as starts
@@ -26,7 +25,7 @@ use Rattle.hub_store.specs.declared.way.Way.TheVariants.{Resting, Bodied, Synced
 use Rattle.log_items.specs.Entries.{items_in}
 use Rattle.log_items.specs.declared.items.Packet.{Packet}
 use Rattle.many_rules.specs.Ledgers.{ledgers}
-use Rattle.many_rules.specs.Rules.{Rules, IsOurs, HaveRun, pairs_of}
+use Rattle.many_rules.specs.Rules.{Rules, IsOurs, pairs_of}
 use Rattle.open_logs.proofs.Pushed.{pushed, stands_behind}
 use Rattle.part_steps.specs.States.{state_of, parts_in, AreStatesOfAll, IsStateOf}
 use Rattle.part_steps.specs.declared.state.PartState.{PartState}
@@ -122,6 +121,7 @@ within front one more all place is rest = (
 same_untouched : {V L : Type 0} {G : sites.Ghosts V} {K : starts.Ghosts (gated_types.Gated L)} (count : ℕ) (old new : GatedStore V L G K) → new.logs ≡ old.logs → new.ledgers ≡ old.ledgers → IsUntouched count old → IsUntouched count new
 same_untouched count old new logs same untouched = record {
   trail = ap trail_in logs ∙ untouched.trail;
+  told = ap told_in logs ∙ untouched.told;
   rest = λ p below. ap (λ l. stage_at l p) logs ∙ untouched.rest p below;
   floors = λ p. ap (λ (l : Vec Ledger Global). floors_of l.items p) same ∙ untouched.floors p;
   going = ap (λ l. l.halted) logs ∙ untouched.going;

@@ -1,5 +1,5 @@
 -- What a life is begun with, and what it leaves.
-use Rattle.std.proofs.Common.{◌≡◌, ◌≢◌, ◌<◌, ◌≤◌, ◌+◌, ◌∙◌, ℕ, zero, suc, List, [], ◌∷◌, ◌++◌, Option, Some, None, refl, sym, ap, subst, arith, slice_get, get_or, length, length-append}
+use Rattle.std.proofs.Common.{◌≡◌, ◌<◌, ◌≤◌, ◌+◌, ◌∙◌, ℕ, List, [], ◌∷◌, Option, Some, None, refl, sym, ap, subst, length, length-append}
 use Rattle.std.specs.Prelude.{IfSome}
 use Rattle.std.proofs.lemmas.Option.{get_or_from_slice_get}
 use Rattle.cell_frames.specs.Begun.{HasBegun}
@@ -19,9 +19,9 @@ use Rattle.recover_core.specs.declared.error.RecoverError.TheVariants as errors
 use Rattle.site_model.specs.History.{Step}
 use Rattle.world_core.specs.World.{WorldView}
 use Rattle.world_core.specs.declared.answer.Answer.{Answer}
-use Rattle.world_core.specs.declared.event.Event.{Event}
 use Rattle.world_lives.specs.Begins.{BeginsWith, rules_of}
 use Rattle.world_lives.specs.Lives.{Lives, nothing, one_more}
+use Rattle.world_lives.specs.declared.deed.Deed.{Deed}
 
 -- the rules of a life begin with what it is begun with
 pub begins_with : (flows : Flows) (count : ℕ) (begun : Begun) (run : List Commit) → 0 < count → count ≤ 32 → CanBegin count begun → BeginsWith (rules_of flows count begun run) begun.states.items begun.incarnations.items
@@ -49,11 +49,11 @@ has_begun flows count digest steps begun run made = record {
   silent = refl;
 }
 
--- there is an answer to each event
-pub all_answered : (rules : Rules) (mode : Mode) (nodes : ℕ) (first last : WorldView) (events : List Event) (answers : List Answer) → Lives rules mode nodes first events answers last → length answers ≡ length events
-all_answered rules mode nodes first last events answers nothing = refl
-all_answered rules mode nodes first last events answers (one_more {events = before} {answers = told} {old = old} lives event answer new happens) =
-    length-append told (answer ∷ []) ∙ ap (λ (n : ℕ). n + 1) (all_answered rules mode nodes first old before told lives) ∙ sym (length-append before (event ∷ []))
+-- there is an answer to each deed
+pub all_answered : (rules : Rules) (mode : Mode) (nodes : ℕ) (first last : WorldView) (done : List Deed) (came : List Answer) → Lives rules mode nodes first done came last → length came ≡ length done
+all_answered rules mode nodes first last done came nothing = refl
+all_answered rules mode nodes first last done came (one_more {done = before} {came = told} {old = old} lives deed answer new does well) =
+    length-append told (answer ∷ []) ∙ ap (λ (n : ℕ). n + 1) (all_answered rules mode nodes first old before told lives) ∙ sym (length-append before (deed ∷ []))
 
 -- where memory ran out nothing is said of why
 pub why_memory : (flows : Flows) (count digest : ℕ) (files : ℕ → List ℕ) (refused : Option OpenError) → IfSome refused (λ e. e ≡ refusals.Refused errors.Memory) → IfSome refused (WhyUnopened flows count digest files)

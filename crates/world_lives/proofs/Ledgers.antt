@@ -1,11 +1,9 @@
 -- The ledgers of the states fit what the store begins with.
 use Rattle.std.proofs.Common.{◌≡◌, ◌<◌, ◌∙◌, ℕ, zero, suc, List, [], ◌∷◌, ◌++◌, Some, None, refl, sym, ap, subst, arith, slice_get, get_or, length}
 use Rattle.std.proofs.lemmas.Option.{slice_get_within, slice_get_read}
-use Rattle.commit_gate.specs.Ledgers as plain
 use Rattle.commit_gate.specs.Views.{floors_in, floors_of}
 use Rattle.commit_gate.specs.declared.ledger.Ledger.{Ledger}
 use Rattle.dura_model.specs.Partition.{Partition, fresh}
-use Rattle.dura_model.specs.Sends.{nexts_in}
 use Rattle.gated_store.specs.Kept.{LedgerFits}
 use Rattle.log_items.specs.Entries.{incarnations_in}
 use Rattle.many_logs.specs.Labels.{AreNumbered}

@@ -1,3 +1,7 @@
 pub mod Begins
-pub mod Ledgers
+pub mod Further
 pub mod Going
+pub mod Ledgers
+pub mod NewLives
+pub mod Passed
+pub mod Saying

@@ -6,7 +6,7 @@ use Rattle.commit_gate.specs.declared.ledger.Ledger.{Ledger}
 use Rattle.flow_syntax.specs.Syntax.{Flows}
 use Rattle.gated_store.specs.declared.local.Gated as gated_types
 use Rattle.gated_store.specs.declared.store.GatedStore.{GatedStore}
-use Rattle.hub_store.specs.Changes.{stage_at, trail_in}
+use Rattle.hub_store.specs.Changes.{stage_at, trail_in, told_in}
 use Rattle.hub_store.specs.declared.start.Start as starts
 use Rattle.hub_store.specs.declared.way.Stage.TheVariants as stages
 use Rattle.many_logs.specs.Placing.{Commit}
@@ -50,9 +50,10 @@ pub record BeginsWith (rules : Rules) (states : List PartState) (incarnations : 
 abbrev pub AreLedgersOf : (count : ℕ) → List PartState → List (List ℕ) → List Ledger → Type 0
 AreLedgersOf count states pasts ledgers = (partition : ℕ) (ledger : Ledger) (past : List ℕ) → slice_get ledgers partition ≡ Some ledger → slice_get pasts partition ≡ Some past → IsLedgerOf count (parts_in states partition) past ledger
 
--- Nothing was settled, no frame is under way, no entry was given up, no device call failed and no line was cut.
+-- Nothing was settled or said, no frame is under way, no entry was given up, no device call failed and no line was cut.
 pub record IsUntouched {V L : Type 0} {G : sites.Ghosts V} {K : starts.Ghosts (gated_types.Gated L)} (count : ℕ) (store : GatedStore V L G K) : Type 0 where
   pub trail : trail_in store.logs ≡ []
+  pub told : told_in store.logs ≡ []
   pub rest : (partition : ℕ) → partition < count → stage_at store.logs partition ≡ stages.Resting
   pub floors : (partition : ℕ) → floors_of store.ledgers.items partition ≡ []
   pub going : store.logs.halted ≡ false

@@ -9,7 +9,9 @@ ghost use Rattle.hub_store.specs.Plain.{trail_of};
 ghost use Rattle.many_rules.specs.Ledgers.{ledgers, readers};
 ghost use Rattle.many_rules.specs.Makes.{Makes};
 ghost use Rattle.part_steps.specs.States.{AreStatesOfAll, state_of, count_of, parts_in, IsStateOf};
-ghost use Rattle.world_core.specs.World.{Stands, world};
+ghost use Rattle.spec_tracker.specs.declared.marks.Marks.{Marks as KnownMarks};
+ghost use Rattle.world_core.specs.World.{Stands, AreMarksOf, world};
+ghost use Rattle.world_laws.specs.Lives.{IsNewLife, IsCurrent};
 ghost use Rattle.world_lives.specs.Begins.{AreLedgersOf, BeginsWith, AllBegun, IsBegun, IsUntouched};
 
 use crate::ending::{end_cell, end_cells};
@@ -22,6 +24,7 @@ use many_rules::{ByRules, Picked};
 use part_steps::PartState;
 use site_model::Site;
 use spec_cell::Cell;
+use spec_tracker::Marks;
 use state_ledgers::ledger_of;
 use std::alloc::{AllocError, AllocFailed, Global};
 use world_core::Life;
@@ -133,6 +136,31 @@ fn cells_of<M: Picked>(
     Ok(cells)
 }
 
+/// What is known of the logs when a life begins.
+fn first_known<V: Site, M: Picked>(
+    alloc: Global,
+    store: &mut GatedStore<V, ByRules<M>>,
+    count: u32,
+) -> Result<Vec<Marks>, AllocError>
+    requires begun { HasBegun M.origin M.rules }
+    requires kept { IsKept M.origin.count (ledgers M.rules) (readers M.rules) (Makes M.rules)
+        store.old }
+    requires count { M.rules.count ≡ count }
+    ensures logs { store.new.logs ≡ store.old.logs }
+    ensures ledgers { store.new.ledgers ≡ store.old.ledgers }
+    ensures kept { IsKept M.origin.count (ledgers M.rules) (readers M.rules) (Makes M.rules)
+        store.new }
+    ensures known { IfOk result (λ marks. (first : KnownMarks) × (marks.items ≡ first ∷ [])
+        × AreMarksOf M.rules (view_of store.old) first) }
+{
+    let now = store.marks(alloc, count)?;
+    let mut marks = Vec::new(alloc);
+    if marks.push(now).is_err() {
+        return Err(AllocError);
+    }
+    Ok(marks)
+}
+
 /// A life begins over a new store: a cell for each partition, and what is known of the logs.
 pub(crate) fn begin_life<V: Site, M: Picked>(
     alloc: Global,
@@ -153,14 +181,14 @@ pub(crate) fn begin_life<V: Site, M: Picked>(
         store.new }
     ensures stands { IfOk result (λ life. Stands M.rules (world store.new life.cells.items
         life.packets.items life.marks.items life.ended)) }
-    ensures new { IfOk result (λ life. (life.packets.items ≡ []) × (life.ended ≡ false)) }
+    ensures going { IfOk result (λ life. life.ended ≡ false) }
+    ensures new { IfOk result (λ life. IsNewLife M.rules (world store.new life.cells.items
+        life.packets.items life.marks.items life.ended)) }
+    ensures current { IfOk result (λ life. IsCurrent M.rules (world store.new life.cells.items
+        life.packets.items life.marks.items life.ended)) }
     ensures shape { IfOk result (λ life. (life.mode ≡ shape.mode) × (life.nodes ≡ shape.nodes)) }
 {
-    let now = store.marks(alloc, shape.count)?;
-    let mut marks = Vec::new(alloc);
-    if marks.push(now).is_err() {
-        return Err(AllocError);
-    }
+    let marks = first_known(alloc, store, shape.count)?;
     let cells = cells_of(alloc, states, incarnations, store.settled(), shape.nodes)?;
     Ok(Life {
         cells,

@@ -5,6 +5,7 @@ ghost use Rattle.std.specs.Vec.{vec_capacity};
 ghost use Rattle.cell_frames.specs.Begun.{HasBegun};
 ghost use Rattle.gated_store.specs.Kept.{IsKept};
 ghost use Rattle.hub_store.specs.Opened.{IsOrigin, HasBegun as StoreBegun};
+ghost use Rattle.hub_store.specs.Trail.{settled_at};
 ghost use Rattle.many_rules.specs.Leaves.{Begins};
 ghost use Rattle.many_rules.specs.Ledgers.{ledgers, readers};
 ghost use Rattle.many_rules.specs.Makes.{Makes};
@@ -12,10 +13,12 @@ ghost use Rattle.open_logs.specs.Begun.{CanBegin, MadeBy};
 ghost use Rattle.open_logs.specs.Moments.{OpensOnly};
 ghost use Rattle.open_logs.specs.Spent.{WhyUnopened};
 ghost use Rattle.site_model.specs.History.{content_of};
+ghost use Rattle.site_model.specs.Moments.{Always};
 ghost use Rattle.world_lives.specs.Begins.{BeginsWith, IsUntouched, rules_of};
 ghost use Rattle.world_lives.specs.Lives.{WasLived, LeavesRuns, IsLife};
 
 use crate::beginning::{begin_life, ledgers_of};
+use crate::deed::Deed;
 use crate::ending::end_life;
 use crate::lived::{Lived, out_of_memory, refused_by};
 use crate::named::{Named, Of, Since};
@@ -32,7 +35,7 @@ use recover_core::RecoverError;
 use site_model::Site;
 use std::alloc::Global;
 use std::marker::Brand;
-use world_core::{Answer, Event};
+use world_core::{Answer, look_at};
 
 /// A life over a new store.
 fn live_over<V: Site, M: Picked, R: Reactions>(
@@ -42,7 +45,7 @@ fn live_over<V: Site, M: Picked, R: Reactions>(
     states: Vec<PartState>,
     incarnations: &[u64],
     shape: Shape,
-    events: Vec<Event>,
+    deeds: Vec<Deed>,
     answers: Vec<Answer>,
 ) -> Lived<V>
     requires begun { HasBegun M.origin M.rules }
@@ -53,15 +56,20 @@ fn live_over<V: Site, M: Picked, R: Reactions>(
     requires begins { BeginsWith M.rules states.items incarnations.now }
     requires count { M.rules.count ≡ shape.count }
     requires none { answers.items ≡ [] }
-    requires room { length events.items ≤ vec_capacity answers }
+    requires room { length deeds.items ≤ vec_capacity answers }
     ensures tells { V.tells result.site → V.tells store.logs.site }
     ensures same { result.refused ≢ None → result.site ≡ store.logs.site }
     ensures nothing { result.refused ≢ None → (result.trail ≡ []) × (result.answers.items ≡ []) }
     ensures memory { IfSome result.refused (λ e. e ≡ OpenError.Refused RecoverError.Memory) }
     ensures answers { result.refused ≡ None
-        → length result.answers.items ≡ length events.items }
-    ensures was { result.refused ≡ None → WasLived M.rules shape.mode shape.nodes events.items
+        → length result.answers.items ≡ length deeds.items }
+    ensures was { result.refused ≡ None → WasLived M.rules shape.mode shape.nodes
+        (V.tells result.site) M.origin.steps (V.history result.site) deeds.items
         result.answers.items result.trail }
+    ensures further { V.tells result.site → result.refused ≡ None
+        → Always (λ moment. Unit {0}) M.origin.steps (V.history result.site) }
+    ensures unsettled { V.tells result.site → result.refused ≡ None → (moment : ℕ)
+        → moment < length M.origin.steps → settled_at moment result.trail ≡ [] }
     ensures crash { V.tells result.site → result.refused ≡ None → (digest : ℕ)
         → Begins M.origin M.rules digest
         → LeavesRuns M.rules digest M.origin (V.history result.site) result.trail }
@@ -71,7 +79,8 @@ fn live_over<V: Site, M: Picked, R: Reactions>(
         let Ended { site, trail: _ } = end_call(store);
         return out_of_memory(alloc, site);
     };
-    let answers = play(alloc, reactions, &mut store, &mut life, events, answers);
+    look_at(&life.cells);
+    let answers = play(alloc, reactions, &mut store, &mut life, deeds, answers);
     end_life(life);
     let Ended { site, trail } = end_call(store);
     Lived {
@@ -90,7 +99,7 @@ fn live_named<V: Site, N: Named, R: Reactions>(
     begun: Begun,
     placed: PlacedMark,
     shape: Shape,
-    events: Vec<Event>,
+    deeds: Vec<Deed>,
 ) -> Lived<V>
     requires some { 0 < shape.count }
     requires few { shape.count ≤ 32 }
@@ -106,9 +115,14 @@ fn live_named<V: Site, N: Named, R: Reactions>(
     ensures nothing { result.refused ≢ None → (result.trail ≡ []) × (result.answers.items ≡ []) }
     ensures memory { IfSome result.refused (λ e. e ≡ OpenError.Refused RecoverError.Memory) }
     ensures answers { result.refused ≡ None
-        → length result.answers.items ≡ length events.items }
-    ensures was { result.refused ≡ None → WasLived N.rules shape.mode shape.nodes events.items
+        → length result.answers.items ≡ length deeds.items }
+    ensures was { result.refused ≡ None → WasLived N.rules shape.mode shape.nodes
+        (V.tells result.site) N.origin.steps (V.history result.site) deeds.items
         result.answers.items result.trail }
+    ensures further { V.tells result.site → result.refused ≡ None
+        → Always (λ moment. Unit {0}) N.origin.steps (V.history result.site) }
+    ensures unsettled { V.tells result.site → result.refused ≡ None → (moment : ℕ)
+        → moment < length N.origin.steps → settled_at moment result.trail ≡ [] }
     ensures crash { V.tells result.site → result.refused ≡ None → (digest : ℕ)
         → Begins N.origin N.rules digest
         → LeavesRuns N.rules digest N.origin (V.history result.site) result.trail }
@@ -119,7 +133,7 @@ fn live_named<V: Site, N: Named, R: Reactions>(
         pasts,
         incarnations,
     } = begun;
-    let Ok(answers) = Vec::with_capacity(alloc, events.len()) else {
+    let Ok(answers) = Vec::with_capacity(alloc, deeds.len()) else {
         return out_of_memory(alloc, site);
     };
     let Ok(ledgers) = ledgers_of(alloc, &states, pasts, shape.count) else {
@@ -133,7 +147,7 @@ fn live_named<V: Site, N: Named, R: Reactions>(
             states,
             &incarnations,
             shape,
-            events,
+            deeds,
             answers,
         ),
         Err(site) => out_of_memory(alloc, site),
@@ -146,7 +160,7 @@ fn live_since<V: Site, S: Since, R: Reactions>(
     site: V,
     reactions: &R,
     shape: Shape,
-    events: Vec<Event>,
+    deeds: Vec<Deed>,
 ) -> Lived<V>
     requires since { S.steps ≡ V.history site }
     requires some { 0 < shape.count }
@@ -160,10 +174,10 @@ fn live_since<V: Site, S: Since, R: Reactions>(
     ensures refused { V.tells result.site → IfSome result.refused (WhyUnopened
         (R.flows reactions.now) shape.count shape.digest (λ file. content_of file (V.history site))) }
     ensures answers { result.refused ≡ None
-        → length result.answers.items ≡ length events.items }
+        → length result.answers.items ≡ length deeds.items }
     ensures lived { result.refused ≡ None → IsLife (R.flows reactions.now) shape.count shape.digest
         shape.mode shape.nodes (V.tells result.site) (V.history site) (V.history result.site)
-        events.items result.answers.items result.trail }
+        deeds.items result.answers.items result.trail }
 {
     let mut site = site;
     match open_logs(alloc, &mut site, reactions, shape.digest, shape.count) {
@@ -175,21 +189,21 @@ fn live_since<V: Site, S: Since, R: Reactions>(
                 shape.count,
                 &begun,
             );
-            live_named::<V, Brand, R>(alloc, site, reactions, begun, placed, shape, events)
+            live_named::<V, Brand, R>(alloc, site, reactions, begun, placed, shape, deeds)
         }
         Err(error) => refused_by(alloc, site, error),
     }
 }
 
-/// Lives through these events, one after another, from what the site's files keep on until the events are used up: recovers all partitions,
-/// opens their logs, begins a cell for each, and says what each event comes to. The world is left as it is by then, as a crash would leave
+/// Does these deeds, one after another, from what the site's files keep on until they are used up: recovers all partitions, opens their
+/// logs, begins a cell for each, and says what each deed comes to. The world is left as it is by then, as a crash would leave
 /// it. Where no life begins it says why, and nothing is settled.
 pub fn live<V: Site, R: Reactions>(
     alloc: Global,
     site: V,
     reactions: &R,
     shape: Shape,
-    events: Vec<Event>,
+    deeds: Vec<Deed>,
 ) -> Lived<V>
     requires some { 0 < shape.count }
     requires few { shape.count ≤ 32 }
@@ -202,10 +216,10 @@ pub fn live<V: Site, R: Reactions>(
     ensures refused { V.tells result.site → IfSome result.refused (WhyUnopened
         (R.flows reactions.now) shape.count shape.digest (λ file. content_of file (V.history site))) }
     ensures answers { result.refused ≡ None
-        → length result.answers.items ≡ length events.items }
+        → length result.answers.items ≡ length deeds.items }
     ensures lived { result.refused ≡ None → IsLife (R.flows reactions.now) shape.count shape.digest
         shape.mode shape.nodes (V.tells result.site) (V.history site) (V.history result.site)
-        events.items result.answers.items result.trail }
+        deeds.items result.answers.items result.trail }
 {
-    live_since::<V, Brand, R>(alloc, site, reactions, shape, events)
+    live_since::<V, Brand, R>(alloc, site, reactions, shape, deeds)
 }

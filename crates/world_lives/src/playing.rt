@@ -1,4 +1,4 @@
-//! Events happen, one after another.
+//! Deeds are done, one after another.
 
 ghost use Rattle.std.specs.Prelude.{◌≡◌, ◌≤◌, [], length};
 ghost use Rattle.std.specs.Vec.{vec_capacity};
@@ -9,20 +9,22 @@ ghost use Rattle.many_rules.specs.Makes.{Makes};
 ghost use Rattle.world_core.specs.World.{Stands, world};
 ghost use Rattle.world_lives.specs.Lives.{Lives};
 
+use crate::deed::Deed;
+use crate::doing::do_deed;
 use gated_store::GatedStore;
 use many_rules::{ByRules, Picked};
 use part_rows::Reactions;
 use site_model::Site;
 use std::alloc::Global;
-use world_core::{Answer, Event, Life, happen};
+use world_core::{Answer, Life, look_at};
 
-/// Each event happens, one after another, and there is room for what they come to.
+/// Each deed is done, one after another, and there is room for what they come to.
 pub(crate) fn play<V: Site, M: Picked, R: Reactions>(
     alloc: Global,
     reactions: &R,
     store: &mut GatedStore<V, ByRules<M>>,
     life: &mut Life<M>,
-    events: Vec<Event>,
+    deeds: Vec<Deed>,
     answers: Vec<Answer>,
 ) -> Vec<Answer>
     requires begun { HasBegun M.origin M.rules }
@@ -32,18 +34,19 @@ pub(crate) fn play<V: Site, M: Picked, R: Reactions>(
     requires stands { Stands M.rules (world store.old life.old.cells.items
         life.old.packets.items life.old.marks.items life.old.ended) }
     requires none { answers.items ≡ [] }
-    requires room { length events.items ≤ vec_capacity answers }
+    requires room { length deeds.items ≤ vec_capacity answers }
     ensures tells { V.tells store.new.logs.site → V.tells store.old.logs.site }
     ensures kept { IsKept M.origin.count (ledgers M.rules) (readers M.rules) (Makes M.rules)
         store.new }
     ensures lives { Lives M.rules life.old.mode life.old.nodes (world store.old life.old.cells.items
-        life.old.packets.items life.old.marks.items life.old.ended) events.items result.items
+        life.old.packets.items life.old.marks.items life.old.ended) deeds.items result.items
         (world store.new life.new.cells.items
         life.new.packets.items life.new.marks.items life.new.ended) }
 {
     let mut answers = answers;
-    'events: for event in events {
-        let answer = happen(alloc, reactions, store, life, event);
+    'deeds: for deed in deeds {
+        let answer = do_deed(alloc, reactions, store, life, deed);
+        look_at(&life.cells);
         if answers.push(answer).is_err() {
             unreachable!();
         }

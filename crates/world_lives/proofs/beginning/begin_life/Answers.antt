@@ -1,24 +1,20 @@
-use Rattle.std.proofs.Common.{◌≡◌, ◌∙◌, ◌++◌, ◌∷◌, [], ℕ, List, ap, subst, sym}
-use Rattle.gated_store.specs.Kept.{IsKept}
-use Rattle.many_rules.specs.Ledgers.{ledgers, readers}
-use Rattle.many_rules.specs.Makes.{Makes}
-use Rattle.recover_core.proofs.Pushed.{pushed_items}
-use Rattle.spec_tracker.specs.declared.marks.Marks.{Marks}
-use Rattle.world_core.proofs.KnownMarks.{known_marks}
 use Rattle.world_lives.proofs.Begins.{stands_first}
+use Rattle.world_lives.proofs.NewLives.{new_first, current_first}
 use Rattle.world_lives.proofs.beginning.begin_life.Goals as goal
 
 pub returns-clause-stands : goal.returns-clause-stands
 returns-clause-stands g c =
-    let e = c.in_ok-now.ensures in
-    let rules = g.M.Picked.rules in
-    let store = c.args.store.now in
-    let first = c.in_ok-now.now in
-    let before = c.new-marks.result.items in
-    let count = sym g.M.Picked.counts ∙ c.requires.count in
-    let known = known_marks rules c.args.shape.count store first (subst (λ (n : ℕ). IsKept n (ledgers rules) (readers rules) (Makes rules) store) count c.requires.kept) c.requires.count e.lengths e.floors e.reads c.requires.begun.made c.requires.begun.below c.requires.begun.numbered in
-    let marks_are : c.push.new.self.items ≡ first ∷ [] =
-    pushed_items c.push.result (before ++ first ∷ []) before c.push.new.self.items c.if-is_err.false c.is_err.ensures.value c.push.ensures.items
-    ∙ ap (λ (l : List Marks). l ++ first ∷ []) c.new-marks.ensures.items in
-    stands_first rules store c.marks.new.self c.args.states.items c.args.incarnations.now c.in_ok-cells.cells.items c.new.result.items first c.push.new.self.items
-    c.requires.begins c.requires.silent c.requires.untouched c.marks.ensures.logs c.marks.ensures.ledgers c.in_ok-cells.ensures.many c.in_ok-cells.ensures.begun known marks_are
+    let e = c.in_ok-marks.ensures.known in
+    stands_first g.M.Picked.rules c.args.store.now c.first_known.new.store c.args.states.items c.args.incarnations.now c.in_ok-cells.cells.items c.new.result.items e.0 c.in_ok-marks.marks.items
+    c.requires.begins c.requires.silent c.requires.untouched c.first_known.ensures.logs c.first_known.ensures.ledgers c.in_ok-cells.ensures.many c.in_ok-cells.ensures.begun e.2 e.1
+
+pub returns-clause-new : goal.returns-clause-new
+returns-clause-new g c =
+    let e = c.in_ok-marks.ensures.known in
+    new_first g.M.Picked.rules c.args.store.now c.first_known.new.store c.first_known.ensures.logs c.first_known.ensures.ledgers e.0 e.2 c.in_ok-marks.marks.items e.1 c.args.incarnations.now c.in_ok-cells.cells.items c.new.result.items c.in_ok-cells.ensures.begun
+    c.new.ensures.items
+
+pub returns-clause-current : goal.returns-clause-current
+returns-clause-current g c =
+    let e = c.in_ok-marks.ensures.known in
+    current_first g.M.Picked.rules c.args.store.now c.first_known.new.store c.first_known.ensures.logs c.first_known.ensures.ledgers e.0 e.2 c.in_ok-marks.marks.items e.1 c.in_ok-cells.cells.items c.new.result.items

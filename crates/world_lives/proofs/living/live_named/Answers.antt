@@ -37,6 +37,7 @@ live_over-requires-clause-untouched g c =
     let l = c.in-Ok-ledgers_of in
     record {
       trail = e.trail;
+      told = e.told;
       rest = λ p below. e.rest p (subst (λ (n : ℕ). p < n) g.N.Named.counts below);
       floors = λ p. ap (λ (f : ℕ → List Floor). f p) e.floors ∙ none_given_up c.args.shape.count c.deref.result.now begun.pasts.items l.ledgers.items l.ensures.many c.requires.can.pasts l.ensures.show p;
       going = e.going;

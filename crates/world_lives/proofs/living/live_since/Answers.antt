@@ -1,13 +1,14 @@
-use Rattle.std.proofs.Common.{◌≡◌, ℕ, List, refl, sym, subst}
-use Rattle.open_logs.proofs.KeptRun.{kept_by_other}
+use Rattle.std.proofs.Common.{ℕ, List, refl, sym, subst}
+use Rattle.hub_store.specs.Trail.{settled_at}
+use Rattle.open_logs.proofs.KeptRun.{kept_by_other, same_own}
 use Rattle.open_logs.proofs.Picked.{origin_is}
 use Rattle.open_logs.specs.Begun.{AreTheirs}
-use Rattle.open_logs.specs.Moments.{OpensOnly}
-use Rattle.open_logs.specs.Picks.{files_of}
+use Rattle.open_logs.specs.Picks.{files_of, origin_of}
+use Rattle.order_laws.proofs.Stands.{order_stands}
 use Rattle.part_steps.specs.States.{parts_in}
-use Rattle.site_model.specs.History.{Step, content_of}
+use Rattle.site_model.specs.History.{Step, back_to, content_of}
 use Rattle.world_lives.specs.Begins.{rules_of}
-use Rattle.world_lives.proofs.Going.{has_begun, why_memory}
+use Rattle.world_lives.proofs.Going.{has_begun}
 use Rattle.world_lives.proofs.living.live_since.Goals as goal
 
 pub placed_by-placed-requires : goal.placed_by-placed-requires
@@ -35,17 +36,26 @@ returns-in-Ok-clause-lived g c = λ none.
     let shape = c.args.shape in
     let run = c.placed_by-placed.result.run in
     let made = c.placed_by-placed.ensures in
+    let before : ℕ → List ℕ = λ file. content_of file (g.V.Site.history c.args.site) in
+    let theirs : g.V.Site.tells c.open_logs.new.site → AreTheirs shape.count shape.digest before run = λ told. subst (λ (steps : List Step). AreTheirs shape.count shape.digest (λ file. content_of file steps) run) c.requires.since (made.1 told) in
     record {
       begun = c.in-Ok.begun;
       run = run;
       steps = g.V.Site.history c.open_logs.new.site;
       made = made.0;
+      theirs = λ tells. theirs (e.tells tells);
       was = e.was none;
       opening = λ tells. c.open_logs.ensures.during (e.tells tells);
-      crash = λ tells other kept.
+      further = λ tells. e.further tells none;
+      nothing = λ tells. e.unsettled tells none;
+      crash = λ tells other kept moment low high files image.
           let told = e.tells tells in
-          let files : ℕ → List ℕ = λ file. content_of file (g.V.Site.history c.args.site) in
-          let theirs = subst (λ (steps : List Step). AreTheirs shape.count shape.digest (λ file. content_of file steps) run) c.requires.since (made.1 told) in
-          let keeps = kept_by_other flows shape.count shape.digest files c.in-Ok.begun run made.0 theirs other kept in
-          e.crash tells none shape.digest ((c.in-Ok.ensures.opened told).begins (rules_of flows shape.count c.in-Ok.begun run) (record { flows_are = refl; count_is = refl; states = refl; kept = keeps }));
+          let keeps = kept_by_other flows shape.count shape.digest before c.in-Ok.begun run made.0 (theirs told) other kept in
+          let begins = (c.in-Ok.ensures.opened told).begins (rules_of flows shape.count c.in-Ok.begun run) (record { flows_are = refl; count_is = refl; states = refl; kept = keeps }) in
+          let on = e.crash tells none shape.digest begins moment low high files image in
+          let steps = g.V.Site.history c.live_named.result.site in (
+            on.0,
+            order_stands (rules_of flows shape.count c.in-Ok.begun run) other kept.states on.0 shape.digest (origin_of shape.count shape.digest (g.V.Site.history c.open_logs.new.site) c.in-Ok.begun) (back_to moment steps) (settled_at moment c.live_named.result.trail) files
+                kept.below (λ partition low. same_own shape.count shape.digest before run other made.0.below kept.below (theirs told) kept.kept partition) kept.made on.1,
+          );
     }
