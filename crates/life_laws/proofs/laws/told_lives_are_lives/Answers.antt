@@ -1,0 +1,5 @@
+use Rattle.life_laws.proofs.Starting.{one_life}
+use Rattle.life_laws.proofs.laws.told_lives_are_lives.Goals as goal
+
+pub returns : goal.returns
+returns g c flows count digest life site = one_life flows count digest life (g.V.Site.tells site)
