@@ -1,0 +1,5 @@
+mod Courses
+mod Joins
+mod Judges
+mod Known
+mod NewWorlds
