@@ -1,10 +1,10 @@
-//! Lives through events by chance: each ends in a crash at some moment of it, which leaves some image, and the next begins on it. No life
+//! Lives through deeds by chance: each ends in a crash at some moment of it, which leaves some image, and the next begins on it. No life
 //! is refused, no picked frame is refused at its gate, and what is said are answers that the flows may give, the same each time.
 
 ghost use Rattle.std.specs.Prelude.{◌≤◌, ◌<◌};
 
 use crate::chance::Chance;
-use crate::driver::events_by;
+use crate::driver::deeds_by;
 use crate::lives::{lived, new_site};
 use cell_steps::Mode;
 use site_memory::{MemorySite, Pick};
@@ -94,18 +94,18 @@ fn one_life(
     site: MemorySite,
     count: u32,
     mode: Mode,
+    times: u32,
 ) -> MemorySite
     requires some { 0 < count }
     requires few { count ≤ 32 }
 {
-    let times = 40 + chance.below(60) as u32;
-    let events = events_by(rt, alloc, chance, count, times);
+    let deeds = deeds_by(rt, alloc, chance, count, times);
     let Lived {
         site,
         trail,
         answers,
         refused,
-    } = lived(rt, alloc, site, count, mode, events);
+    } = lived(rt, alloc, site, count, mode, deeds);
     assert!(rt; refused.is_none());
     for answer in &answers {
         assert!(rt; !matches!(answer, Answer::Refused(_)));
@@ -125,7 +125,8 @@ fn lives_by(rt: &impl Abort, alloc: Global, seed: u64) {
     for _ in 0..4 {
         let from = said_by(rt, alloc, &site);
         let begun = site.moment();
-        site = one_life(rt, alloc, &mut chance, site, count, mode);
+        let times = 40 + chance.below(60) as u32;
+        site = one_life(rt, alloc, &mut chance, site, count, mode, times);
         check_tape(rt, alloc, &site, from);
         let moments = site.moment().saturating_sub(begun).saturating_add(1);
         let moment = begun.saturating_add(chance.below(moments));
@@ -142,5 +143,43 @@ fn lives_by(rt: &impl Abort, alloc: Global, seed: u64) {
 fn lives_by_chance(rt: HostRuntime) {
     for seed in 0..200 {
         lives_by(&rt, rt.alloc(), seed);
+    }
+}
+
+/// Another life goes on from what a crash at this moment leaves.
+fn goes_on(
+    rt: &impl Abort,
+    alloc: Global,
+    chance: &mut Chance,
+    site: &MemorySite,
+    moment: u64,
+    count: u32,
+    mode: Mode,
+)
+    requires some { 0 < count }
+    requires few { count ≤ 32 }
+{
+    let picks = [Pick::Stable, Pick::All, Pick::Torn(0xC3), Pick::Torn(0x17)];
+    for pick in picks {
+        let crashed = site.image(alloc, moment, pick).expect(rt, "memory");
+        let from = said_by(rt, alloc, &crashed);
+        let after = one_life(rt, alloc, chance, crashed, count, mode, 12);
+        check_tape(rt, alloc, &after, from);
+        drop(after);
+    }
+}
+
+#[test]
+fn a_crash_at_each_moment(rt: HostRuntime) {
+    for seed in 200..206 {
+        let mut chance = Chance::of(seed);
+        let count = 1 + chance.below(4) as u32;
+        let mode = mode_of(&mut chance);
+        let empty = new_site(&rt, rt.alloc());
+        let site = one_life(&rt, rt.alloc(), &mut chance, empty, count, mode, 60);
+        for moment in 0..site.moment().saturating_add(1) {
+            goes_on(&rt, rt.alloc(), &mut chance, &site, moment, count, mode);
+        }
+        drop(site);
     }
 }

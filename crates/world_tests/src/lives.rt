@@ -1,16 +1,16 @@
-//! Lives through a text's events.
+//! Lives through a text's deeds.
 
 ghost use Rattle.std.specs.Prelude.{◌≡◌, ◌<◌, ◌≤◌};
 
-use crate::script::{event_of, told};
+use crate::script::{deed_of, told};
 use cell_steps::Mode;
 use flow_reader::read_flows;
 use flow_steps::Machines;
 use site_memory::MemorySite;
 use std::alloc::Global;
 use std::process::Abort;
-use world_core::{Answer, Event};
-use world_lives::{Lived, Shape, live};
+use world_core::Answer;
+use world_lives::{Deed, Lived, Shape, live};
 
 /// A sum, a word that is drawn and set, and an instance that starts one that starts one.
 const FLOWS: &[u8] = br#"{
@@ -39,14 +39,14 @@ pub(crate) fn shape_of(count: u32, mode: Mode) -> Shape
     }
 }
 
-/// Lives through these events.
+/// Lives through these deeds.
 pub(crate) fn lived(
     rt: &impl Abort,
     alloc: Global,
     site: MemorySite,
     count: u32,
     mode: Mode,
-    events: Vec<Event>,
+    deeds: Vec<Deed>,
 ) -> Lived<MemorySite> {
     assert!(rt; 0 < count && count <= 32);
     let flows = read_flows(alloc, FLOWS).expect(rt, "flows");
@@ -55,20 +55,20 @@ pub(crate) fn lived(
         site,
         &Machines::of(&flows),
         shape_of(count, mode),
-        events,
+        deeds,
     );
     drop(flows);
     lived
 }
 
-/// The events of a text, of whose lines each has one, and behind a colon what it comes to.
-fn events_of(rt: &impl Abort, alloc: Global, text: &str) -> Vec<Event> {
-    let mut events = Vec::new(alloc);
+/// The deeds of a text, of whose lines each has one, and behind a colon what it comes to.
+fn deeds_of(rt: &impl Abort, alloc: Global, text: &str) -> Vec<Deed> {
+    let mut deeds = Vec::new(alloc);
     for line in text.lines() {
-        let (event, _) = line.split_once(": ").expect(rt, "an answer");
-        events.push(event_of(rt, alloc, event)).expect(rt, "memory");
+        let (deed, _) = line.split_once(": ").expect(rt, "an answer");
+        deeds.push(deed_of(rt, alloc, deed)).expect(rt, "memory");
     }
-    events
+    deeds
 }
 
 /// An answer is the one of its line.
@@ -79,7 +79,7 @@ fn check_line(rt: &impl Abort, alloc: Global, line: &str, answer: &Answer) {
     drop(found);
 }
 
-/// Lives through a text's events, which come to what it says. It gives the site, and how many entries were settled.
+/// Lives through a text's deeds, which come to what it says. It gives the site, and how many entries were settled.
 pub(crate) fn played(
     rt: &impl Abort,
     alloc: Global,
@@ -88,13 +88,13 @@ pub(crate) fn played(
     mode: Mode,
     text: &str,
 ) -> (MemorySite, usize) {
-    let events = events_of(rt, alloc, text);
+    let deeds = deeds_of(rt, alloc, text);
     let Lived {
         site,
         trail,
         answers,
         refused,
-    } = lived(rt, alloc, site, count, mode, events);
+    } = lived(rt, alloc, site, count, mode, deeds);
     assert!(rt; refused.is_none());
     for (line, answer) in text.lines().zip(&answers) {
         check_line(rt, alloc, line, answer);

@@ -151,9 +151,9 @@ fn a_node_that_stops_around_the_gate(rt: HostRuntime) {
     drop(site);
 }
 
-/// A word is drawn, an account set to it and asked, all ahead of the logs; then the entry that drew it is given up, and another is drawn.
-/// `Draw/x` lives in partition 0, client a in 1 and `@Account/A` in 2.
-const DRAWN_TWICE: &str = "submit a 1 start Draw/x: queued
+/// A word is drawn, an account set to it and asked, all ahead of the logs; then the node of the entry that drew it stops, and that entry is
+/// given up. `Draw/x` lives in partition 0, client a in 1 and `@Account/A` in 2.
+const DRAWN: &str = "submit a 1 start Draw/x: queued
 turn 1 16: entry 0
 arrive 0 0: queued
 turn 0 16: entry 0
@@ -180,11 +180,20 @@ turn 1 16: entry 2
 say a 2: not answered
 stop 0: seen
 own 0 1: owned
-judge 2 1: kept
-judge 2 0: from 0 on for 0/0/1
+judge 2 1: kept";
+
+/// What depends on it is given up, partition by partition.
+const JUDGED_EACH: &str = "judge 2 0: from 0 on for 0/0/1
 judge 1 0: from 2 on for 2/0/1
-judge 1 0: kept
-outcome 0 Draw/x draw 12: recorded
+judge 1 0: kept";
+
+/// The same of all at once.
+const JUDGED_ALL: &str = "judge all: kept
+judge 2 0: kept
+judge 1 0: kept";
+
+/// Another word is drawn, set and said.
+const DRAWN_AGAIN: &str = "outcome 0 Draw/x draw 12: recorded
 turn 0 16: entry 1
 arrive 2 2: queued
 judge 2 0: kept
@@ -212,17 +221,21 @@ gate 1: open
 settle 1: settled
 say a 2: said";
 
+/// A word is drawn, given up with all that depends on it, and another is drawn.
+fn drawn_twice(rt: &impl Abort, alloc: Global, judged: &str) {
+    let text = format!(in alloc; "{DRAWN}\n{judged}\n{DRAWN_AGAIN}").expect(rt, "memory");
+    let (site, _) = played(rt, alloc, new_site(rt, alloc), 4, Mode::Global, &text);
+    drop(text);
+    check_tape(rt, alloc, &site, "a 2 value 12\n");
+    drop(site);
+}
+
 #[test]
 fn a_word_that_is_drawn_twice(rt: HostRuntime) {
-    let alloc = rt.alloc();
-    let (site, _) = played(
-        &rt,
-        alloc,
-        new_site(&rt, alloc),
-        4,
-        Mode::Global,
-        DRAWN_TWICE,
-    );
-    check_tape(&rt, alloc, &site, "a 2 value 12\n");
-    drop(site);
+    drawn_twice(&rt, rt.alloc(), JUDGED_EACH);
+}
+
+#[test]
+fn a_word_that_is_drawn_twice_with_all_judged(rt: HostRuntime) {
+    drawn_twice(&rt, rt.alloc(), JUDGED_ALL);
 }

@@ -1,4 +1,4 @@
-//! Events, and what they come to, by their lines.
+//! Deeds, and what they come to, by their lines.
 
 use cell_waits::Ended;
 use dura_value::{
@@ -10,6 +10,7 @@ use std::alloc::Global;
 use std::process::Abort;
 use std::str::FromStr;
 use world_core::{Answer, Event};
+use world_lives::Deed;
 
 /// The number that is written so.
 fn number_of(rt: &impl Abort, text: &str) -> u64 {
@@ -159,13 +160,21 @@ fn event_at(rt: &impl Abort, kind: &str, words: &str) -> Event {
 }
 
 /// The event of a line.
-pub(crate) fn event_of(rt: &impl Abort, alloc: Global, line: &str) -> Event {
+fn event_of(rt: &impl Abort, alloc: Global, line: &str) -> Event {
     match line {
         "image" => Event::Image,
         _ => {
             let (kind, words) = parted(rt, line);
             event_by(rt, alloc, kind, words)
         }
+    }
+}
+
+/// The deed of a line.
+pub(crate) fn deed_of(rt: &impl Abort, alloc: Global, line: &str) -> Deed {
+    match line {
+        "judge all" => Deed::JudgeAll,
+        _ => Deed::Happen(event_of(rt, alloc, line)),
     }
 }
 
