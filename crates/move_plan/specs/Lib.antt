@@ -1,0 +1,4 @@
+pub mod Entries
+pub mod Plans
+pub mod Reading
+pub mod Rows
