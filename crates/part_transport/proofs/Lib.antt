@@ -1,0 +1,3 @@
+pub mod Ordered
+pub mod Placing
+pub mod Seen
