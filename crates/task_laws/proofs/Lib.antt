@@ -1,0 +1,4 @@
+pub mod Behind
+pub mod Effects
+pub mod Moves
+pub mod Pending
