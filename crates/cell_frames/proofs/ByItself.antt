@@ -1,5 +1,5 @@
 -- What a cell does by itself, and what comes to it, leaves it joined to the store.
-use Rattle.std.proofs.Common.{◌≡◌, ◌≤◌, ℕ, zero, suc, max, false, List, [], ◌∷◌, ◌++◌, length, take, Option, Some, None, refl, sym, ap, subst, ◌∙◌, arith}
+use Rattle.std.proofs.Common.{◌≡◌, ◌≤◌, ℕ, zero, suc, max, true, List, [], ◌∷◌, ◌++◌, length, take, Option, Some, None, refl, sym, ap, subst, ◌∙◌, arith}
 use Rattle.std.specs.List.{All, Contains}
 use Rattle.std.proofs.lemmas.List.Elements.{All-nil}
 use Rattle.cell_frames.proofs.Coming.{arrives_ours, offers_ours, records_ours}
@@ -29,11 +29,11 @@ use Rattle.log_items.specs.declared.items.Packet.{Packet}
 use Rattle.many_rules.specs.Ledgers.{ledgers}
 use Rattle.many_rules.specs.Ours.{ours_later}
 use Rattle.many_rules.specs.Rules.{Rules, rules_at, pairs_of}
-use Rattle.run_rules.specs.Rules.{IsAsked, EndsPending}
+use Rattle.run_rules.specs.Rules.{IsAsked}
 use Rattle.spec_cell.specs.Comes.{Arrives, Records, Offers}
 use Rattle.spec_cell.specs.Trims.{Trims, trims_by, with_trims}
 use Rattle.spec_cell.specs.Turns.{MakesEntry, IsIdle, IsSpent, CellTurns}
-use Rattle.spec_cell.specs.Views.{CellView, HasFacts}
+use Rattle.spec_cell.specs.Views.{CellView, HasFacts, IsBase}
 use Rattle.spec_cell.specs.declared.cell.CellTurn.{CellTurn}
 use Rattle.spec_cell.specs.declared.cell.CellTurn.TheVariants as turns
 use Rattle.spec_cell.specs.declared.coming.Arrived.{Arrived}
@@ -44,6 +44,7 @@ use Rattle.spec_cell.specs.declared.coming.Recorded.{Recorded}
 use Rattle.spec_cell.specs.declared.coming.Recorded.TheVariants as records
 use Rattle.spec_tracker.specs.declared.marks.Marks.{Marks}
 use Rattle.spec_tracker.specs.declared.marks.Read.{Read}
+use Rattle.task_laws.specs.Asked.{WasAsked}
 
 -- the front of what grows at its end
 front_stays : (n : ℕ) (xs ys : List Entry) → n ≤ length xs → take n (xs ++ ys) ≡ take n xs
@@ -113,14 +114,14 @@ module _ (rules : Rules) (s : StoreView) (p : ℕ) (old : CellView) (joined : Jo
     record { ours = joined.goes.ours.ours; run = joined.goes.ours.run },
     record {
       asked = λ serves. let P = λ (w : Waiting). IsAsked (rules_at rules old.number) (pairs_of s.told) w.item in all_back P looked rest (subst (All P) left (joined.goes.waits.asked serves));
-      run = λ base is serves. let P = λ (w : Waiting). EndsPending base w.item in all_back P looked rest (subst (All P) left (joined.goes.waits.run base is serves));
+      run = λ base is serves. let P = λ (w : Waiting). WasAsked rules.flows base w.item in all_back P looked rest (subst (All P) left (joined.goes.waits.run base is serves));
     },
   )
 
   none_ours : (round : Round) → Both (record old { waits = []; round = round })
   none_ours round = (
     record { ours = joined.goes.ours.ours; run = joined.goes.ours.run },
-    record { asked = λ serves. All-nil (λ (w : Waiting). IsAsked (rules_at rules old.number) (pairs_of s.told) w.item); run = λ base is serves. All-nil (λ (w : Waiting). EndsPending base w.item) },
+    record { asked = λ serves. All-nil (λ (w : Waiting). IsAsked (rules_at rules old.number) (pairs_of s.told) w.item); run = λ base is serves. All-nil (λ (w : Waiting). WasAsked rules.flows base w.item) },
   )
 
   pub idle_joined : (new : CellView) → IsIdle rules.flows rules.count (rules.begin old.number) old new → Joined rules s p new
@@ -147,20 +148,21 @@ module _ (rules : Rules) (s : StoreView) (p : ℕ) (old : CellView) (joined : Jo
   arrives_joined ahead source number message (arrivals.Repeat next) new is = same_joined new is.2
   arrives_joined ahead source number message (arrivals.Gap next) new is = same_joined new is.2
 
-  pub offers_joined : rules.serves ≡ false → (base ahead : Partition) (message : Message) (offered : Offered) (new : CellView) → Offers base ahead message old offered new → Joined rules s p new
-  offers_joined silent base ahead message offers.Queued new is =
+  pub offers_joined : (base ahead : Partition) (message : Message) (offered : Offered) (new : CellView) → (rules.serves ≡ true → IsAsked (rules_at rules old.number) (pairs_of s.told) (took message)) → Offers base ahead message old offered new → Joined rules s p new
+  offers_joined base ahead message offers.Queued new asked is =
       waits_alike (old.waits ++ record { item = took message; activity = None } ∷ []) old.round new is.1
-      (offers_ours rules s.latest s.told old joined.goes.ours joined.goes.waits base ahead message offers.Queued new (λ serves. absurd (cc (silent, serves))) is) (offers_read (read_by rules s p) old joined.goes.read base ahead message offers.Queued new is)
-  offers_joined silent base ahead message offers.Clash new is = same_joined new is.1
-  offers_joined silent base ahead message offers.Taken new is = same_joined new is.1
-  offers_joined silent base ahead message (offers.Kept answer) new is = same_joined new is.1
+      (offers_ours rules s.latest s.told old joined.goes.ours joined.goes.waits base ahead message offers.Queued new asked is) (offers_read (read_by rules s p) old joined.goes.read base ahead message offers.Queued new is)
+  offers_joined base ahead message offers.Clash new asked is = same_joined new is.1
+  offers_joined base ahead message offers.Taken new asked is = same_joined new is.1
+  offers_joined base ahead message (offers.Kept answer) new asked is = same_joined new is.1
 
-  pub records_joined : rules.serves ≡ false → (ahead : Partition) (id : Id) (task : ℕ) (activity : Activity) (outcome : Outcome) (recorded : Recorded) (new : CellView) → Records ahead id task activity outcome old recorded new → Joined rules s p new
-  records_joined silent ahead id task activity outcome records.Recorded new is =
+  pub records_joined : (ahead : Partition) (id : Id) (task : ℕ) (activity : Activity) (outcome : Outcome) (recorded : Recorded) (new : CellView)
+      → (rules.serves ≡ true → (base : Partition) → IsBase rules.flows rules.count (rules.begin old.number) old base → WasAsked rules.flows base (ended id task outcome)) → Records ahead id task activity outcome old recorded new → Joined rules s p new
+  records_joined ahead id task activity outcome records.Recorded new was is =
       waits_alike (old.waits ++ record { item = ended id task outcome; activity = Some activity } ∷ []) old.round new is.1
-      (records_ours rules s.latest s.told old joined.goes.ours joined.goes.waits ahead id task activity outcome records.Recorded new (λ base there serves. absurd (cc (silent, serves))) is)
+      (records_ours rules s.latest s.told old joined.goes.ours joined.goes.waits ahead id task activity outcome records.Recorded new (λ base there serves. was serves base there) is)
       (records_read (read_by rules s p) old joined.goes.read ahead id task activity outcome records.Recorded new is)
-  records_joined silent ahead id task activity outcome records.NotPending new is = same_joined new is.1
+  records_joined ahead id task activity outcome records.NotPending new was is = same_joined new is.1
 
   pub trims_joined : (marks : Marks) (ahead : Partition) (count : ℕ) (new : CellView) → ((read : Read) → Contains marks.reads.items read → read.source ≡ ahead.number → read.next ≤ read_by rules s p read.reader) → Trims marks ahead old count new → Joined rules s p new
   trims_joined marks ahead count new told trims =

@@ -1,19 +1,22 @@
 -- What joins a cell to the store, once the cell changed.
-use Rattle.std.proofs.Common.{◌≡◌, ◌<◌, ◌≤◌, ℕ, zero, suc, ◌+◌, false, List, [], ◌∷◌, ◌++◌, length, take, drop, Some, None, Ok, refl, sym, ap, subst, ◌∙◌, arith, length-append}
+use Rattle.std.proofs.Common.{◌≡◌, ◌<◌, ◌≤◌, ℕ, zero, suc, ◌+◌, List, [], ◌∷◌, ◌++◌, length, take, drop, Some, None, Ok, refl, sym, ap, subst, ◌∙◌, arith, length-append}
 use Rattle.std.specs.List.{All}
 use Rattle.std.proofs.lemmas.List.{length-map, length-take}
 use Rattle.std.proofs.lemmas.List.Elements.{All-tail}
 use Rattle.cell_frames.specs.Joined.{StoreView, GoesOnFrom, Joined, read_by}
-use Rattle.cell_frames.proofs.Stays.{StaysFor, goes_still, goes_out, longer, more_read, same_reads}
+use Rattle.cell_frames.proofs.Stays.{StaysFor, goes_still, goes_out, own_then, longer, more_read, same_reads}
 use Rattle.cell_frames.specs.Ours.{AreOurs, WaitOurs}
 use Rattle.cell_frames.specs.Unlost.{HoldsUnlost, floor_of}
 use Rattle.cell_frames.proofs.Frames.{stands_behind}
 use Rattle.cell_frames.proofs.GivenUp.{rewound_ours, reset_ours, kept_ours}
 use Rattle.cell_frames.proofs.Unlost.{numbered_index, rewound_unlost, reset_unlost, settled_unlost}
+use Rattle.cell_waits.specs.Waits.{Waiting}
 use Rattle.commit_gate.specs.Ledgers.{log_length}
 use Rattle.commit_gate.specs.declared.ledger.Sending.{Sending}
+use Rattle.dura_model.proofs.Appending.{placed_both}
 use Rattle.dura_model.specs.Entries.{placed}
 use Rattle.dura_model.specs.Partition.{Partition, fresh}
+use Rattle.dura_value.proofs.Basics.{both_ok}
 use Rattle.dura_value.specs.Items.{Identity, Entry, Floor}
 use Rattle.flow_syntax.specs.Syntax.{Flows}
 use Rattle.hub_store.specs.Trail.{Settled, Said, of_part, settling}
@@ -23,13 +26,16 @@ use Rattle.many_logs.specs.Placing.{of_partition, states_after}
 use Rattle.many_rules.specs.Ledgers.{ledgers}
 use Rattle.many_rules.specs.Local.{ledger_is}
 use Rattle.many_rules.specs.Makes.{Makes}
-use Rattle.many_rules.specs.Rules.{Rules, IsOurs, pairs_of}
+use Rattle.many_rules.specs.Rules.{Rules, IsOurs, rules_at, pairs_of}
+use Rattle.run_rules.specs.Rules.{IsAsked}
 use Rattle.spec_cell.specs.Moves.{IsRewound, IsReset, IsKept}
 use Rattle.spec_cell.specs.Picks.{HasPicked}
 use Rattle.spec_cell.specs.Seats.{Slot}
 use Rattle.spec_cell.specs.Views.{CellView, HasFacts, HasSettled, next_at}
 use Rattle.spec_tracker.specs.declared.marks.Marks.{Marks}
 use Rattle.cell_frames.specs.TrimsRead.{TrimsRead}
+use Rattle.task_laws.proofs.Behind.{was_asked_still}
+use Rattle.task_laws.specs.Asked.{WasAsked}
 use Rattle.cell_frames.proofs.Reading.{settled_read, rewound_read, reset_read, kept_read, further_read}
 
 all_dropped : {X : Type 0} (P : X → Type 0) (n : ℕ) (xs : List X) → All P xs → All P (drop n xs)
@@ -70,7 +76,7 @@ base_long rules p mine base below made settled =
 
 -- ---- a frame is settled
 
-module _ (rules : Rules) (silent : rules.serves ≡ false) (p at : ℕ) (going : List Entry) (old new : StoreView) (trail : new.trail ≡ old.trail ++ settling p at going) (makes : Makes rules old.latest (of_part p old.trail) old.told p going)
+module _ (rules : Rules) (p at : ℕ) (going : List Entry) (old new : StoreView) (trail : new.trail ≡ old.trail ++ settling p at going) (makes : Makes rules old.latest (of_part p old.trail) old.told p going)
     (latest : new.latest ≡ old.latest) (told : new.told ≡ old.told) (floors : new.floors p ≡ old.floors p) (c after : CellView) (slot : Slot) (within : c.out ≤ length c.entries) (going_is : going ≡ take c.out c.entries)
     (settled : HasSettled c.out slot c after) (mine : slot.mine ≡ of_part p new.trail) (goes : GoesOnFrom rules old p c) where
   abbrev moved : CellView
@@ -82,16 +88,30 @@ module _ (rules : Rules) (silent : rules.serves ≡ false) (p at : ℕ) (going :
       length-take-le-is : length (take c.out c.entries) ≡ c.out
       length-take-le-is = let taken = length-take c.out c.entries in omega (arith, taken, within)
 
+  -- the entries that were out made its settled state of the one before
+  base_before : (base : Partition) → placed rules.flows rules.count (rules.begin c.number) slot.mine ≡ Ok base
+      → (before : Partition) × (placed rules.flows rules.count (rules.begin c.number) c.slot.mine ≡ Ok before) × (placed rules.flows rules.count before going ≡ Ok base)
+  base_before base is =
+      let behind : slot.mine ≡ c.slot.mine ++ going = mine ∙ own_then rules p at going old new trail makes ∙ ap (λ (l : List Entry). l ++ going) (sym goes.mine) in
+      both_ok (placed rules.flows rules.count (rules.begin c.number) c.slot.mine) (λ q. placed rules.flows rules.count q going) base
+      (sym (placed_both rules.flows rules.count (rules.begin c.number) c.slot.mine going) ∙ ap (placed rules.flows rules.count (rules.begin c.number)) (sym behind) ∙ is)
+
   ours_then : AreOurs rules new.latest new.told moved
   ours_then = record {
     ours = subst (λ (n : ℕ). All (IsOurs rules n (pairs_of new.told) c.number) (drop c.out c.entries)) (sym latest)
         (subst (λ (t : List Said). All (IsOurs rules old.latest (pairs_of t) c.number) (drop c.out c.entries)) (sym told)
         (all_dropped (IsOurs rules old.latest (pairs_of old.told) c.number) c.out c.entries goes.ours.ours));
-    run = λ base is serves. absurd (cc (silent, serves));
+    run = λ base is serves.
+        let first = base_before base is in
+        all_dropped (λ (e : Entry). All (WasAsked rules.flows base) e.items) c.out c.entries
+        (λ k d inside j x within_it. was_asked_still rules.flows rules.count first.0 base going _ first.2 (goes.ours.run first.0 first.1 serves k d inside j x within_it));
   }
 
   waits_then : WaitOurs rules new.told moved
-  waits_then = record { asked = λ serves. absurd (cc (silent, serves)); run = λ base is serves. absurd (cc (silent, serves)) }
+  waits_then = record {
+    asked = λ serves. subst (λ (t : List Said). All (λ (w : Waiting). IsAsked (rules_at rules c.number) (pairs_of t) w.item) c.waits) (sym told) (goes.waits.asked serves);
+    run = λ base is serves. let first = base_before base is in λ k d inside. was_asked_still rules.flows rules.count first.0 base going _ first.2 (goes.waits.run first.0 first.1 serves k d inside);
+  }
 
   unlost_then : HoldsUnlost (log_length (ledgers rules p (of_part p new.trail))) (new.floors p) moved
   unlost_then =

@@ -11,7 +11,7 @@ use Rattle.dura_value.specs.Messages.{Message}
 use Rattle.dura_value.specs.declared.outcome.Outcome.{Outcome}
 use Rattle.hub_store.specs.Trail.{Said}
 use Rattle.many_rules.specs.Rules.{Rules, rules_at, pairs_of}
-use Rattle.run_rules.specs.Rules.{IsAsked, EndsPending}
+use Rattle.run_rules.specs.Rules.{IsAsked}
 use Rattle.spec_cell.specs.Comes.{with_wait, Arrives, Records, Offers}
 use Rattle.spec_cell.specs.Views.{CellView, IsBase}
 use Rattle.spec_cell.specs.declared.coming.Arrived.{Arrived}
@@ -20,6 +20,7 @@ use Rattle.spec_cell.specs.declared.coming.Offered.{Offered}
 use Rattle.spec_cell.specs.declared.coming.Offered.TheVariants as offers
 use Rattle.spec_cell.specs.declared.coming.Recorded.{Recorded}
 use Rattle.spec_cell.specs.declared.coming.Recorded.TheVariants as records
+use Rattle.task_laws.specs.Asked.{WasAsked}
 
 module _ (rules : Rules) (latest : ℕ) (told : List Said) (old : CellView) (ours : AreOurs rules latest told old) (waits : WaitOurs rules told old) where
   abbrev Both : CellView → Type 0
@@ -28,11 +29,11 @@ module _ (rules : Rules) (latest : ℕ) (told : List Said) (old : CellView) (our
   abbrev IsAskedHere : Item → Type 0
   IsAskedHere item = rules.serves ≡ true → IsAsked (rules_at rules old.number) (pairs_of told) item
 
-  abbrev HasRunHere : Item → Type 0
-  HasRunHere item = (base : Partition) → IsBase rules.flows rules.count (rules.begin old.number) old base → rules.serves ≡ true → EndsPending base item
+  abbrev WasAskedHere : Item → Type 0
+  WasAskedHere item = (base : Partition) → IsBase rules.flows rules.count (rules.begin old.number) old base → rules.serves ≡ true → WasAsked rules.flows base item
 
   -- one that waits behind the others
-  one_waits : (w : Waiting) → IsAskedHere w.item → HasRunHere w.item → Both (with_wait w old)
+  one_waits : (w : Waiting) → IsAskedHere w.item → WasAskedHere w.item → Both (with_wait w old)
   one_waits w asked run = (
     record { ours = ours.ours; run = ours.run },
     record {
@@ -40,7 +41,7 @@ module _ (rules : Rules) (latest : ℕ) (told : List Said) (old : CellView) (our
           let P = λ (v : Waiting). IsAsked (rules_at rules old.number) (pairs_of told) v.item in
           All-append P old.waits (w ∷ []) (waits.asked serves) (All-cons P w [] (asked serves) (All-nil P));
       run = λ base is serves.
-          let P = λ (v : Waiting). EndsPending base v.item in
+          let P = λ (v : Waiting). WasAsked rules.flows base v.item in
           All-append P old.waits (w ∷ []) (waits.run base is serves) (All-cons P w [] (run base is serves) (All-nil P));
     },
   )
@@ -56,6 +57,6 @@ module _ (rules : Rules) (latest : ℕ) (told : List Said) (old : CellView) (our
   offers_ours base ahead message offers.Taken new asked is = subst Both (sym is.1) (ours, waits)
   offers_ours base ahead message (offers.Kept answer) new asked is = subst Both (sym is.1) (ours, waits)
 
-  pub records_ours : (ahead : Partition) (id : Id) (task : ℕ) (activity : Activity) (outcome : Outcome) (recorded : Recorded) (new : CellView) → HasRunHere (ended id task outcome) → Records ahead id task activity outcome old recorded new → Both new
+  pub records_ours : (ahead : Partition) (id : Id) (task : ℕ) (activity : Activity) (outcome : Outcome) (recorded : Recorded) (new : CellView) → WasAskedHere (ended id task outcome) → Records ahead id task activity outcome old recorded new → Both new
   records_ours ahead id task activity outcome records.Recorded new run is = subst Both (sym is.1) (one_waits (record { item = ended id task outcome; activity = Some activity }) (λ serves. tt) run)
   records_ours ahead id task activity outcome records.NotPending new run is = subst Both (sym is.1) (ours, waits)

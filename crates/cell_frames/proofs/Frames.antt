@@ -20,10 +20,11 @@ use Rattle.many_rules.specs.Makes.{Makes}
 use Rattle.many_rules.specs.Rules.{Rules, IsOurs, pairs_of}
 use Rattle.part_items.proofs.Behind.{numbered_both}
 use Rattle.part_items.specs.Numbered.{IsNumbered}
-use Rattle.run_rules.specs.Rules.{EndsPending}
 use Rattle.spec_cell.specs.Picks.{HasPicked}
 use Rattle.spec_cell.specs.Views.{CellView, HasFacts}
 use Rattle.spec_tracker.specs.declared.marks.Marks.{Marks}
+use Rattle.task_laws.proofs.Pending.{asked_pending}
+use Rattle.task_laws.specs.Asked.{WasAsked}
 
 -- the state that entries make is of the same partition, and stands behind them
 pub record StandsBehind (p : Partition) (entries : List Entry) (q : Partition) : Type 0 where
@@ -76,8 +77,9 @@ module _ (rules : Rules) (made : states_after rules.flows rules.count fresh rule
         after = goes.0;
         accepted = goes.1;
         given = ((given_both rules.flows rules.count facts.base front behind).0 (subst (AllGiven rules.flows rules.count facts.base) (sym whole) facts.given)).0;
-        pending = λ serves. all_front (λ (entry : Entry). All (EndsPending facts.base) entry.items) front behind
-            (subst (All (λ (entry : Entry). All (EndsPending facts.base) entry.items)) (sym whole) (ours.run facts.base facts.settled serves));
+        pending = λ serves.
+            let Were = λ (entry : Entry). All (WasAsked rules.flows facts.base) entry.items in
+            asked_pending rules.flows rules.count facts.base goes.0 front goes.1 (all_front Were front behind (subst (All Were) (sym whole) (ours.run facts.base facts.settled serves)));
         ours = all_front (IsOurs rules latest (pairs_of told) c.number) front behind (subst (All (IsOurs rules latest (pairs_of told) c.number)) (sym whole) ours.ours);
       }
 

@@ -13,7 +13,7 @@ use Rattle.dura_value.specs.Items.{Identity, Item, Entry, took, got, ran, ended,
 use Rattle.flow_syntax.specs.Syntax.{Flows}
 use Rattle.hub_store.specs.Trail.{Said}
 use Rattle.many_rules.specs.Rules.{Rules, IsOurs, rules_at, pairs_of}
-use Rattle.run_rules.specs.Rules.{IsAsked, EndsPending}
+use Rattle.run_rules.specs.Rules.{IsAsked}
 use Rattle.spec_cell.specs.Moves.{given_up, IsRewound, IsReset, IsKept}
 use Rattle.spec_cell.specs.Trims.{Trims, trim_by, trims_of, has_trim, has_before, with_trims}
 use Rattle.spec_cell.specs.Views.{CellView}
@@ -21,6 +21,7 @@ use Rattle.spec_tracker.specs.Marks.{floors_of}
 use Rattle.spec_tracker.specs.declared.marks.Marks.{Marks}
 use Rattle.spec_tracker.specs.declared.marks.Read.{Read}
 use Rattle.std.specs.Prelude.{Option}
+use Rattle.task_laws.specs.Asked.{WasAsked}
 
 module _ (P : Waiting → Type 0) where
   before_all : (lost : Identity → Bool) (w : Waiting) (item : Item) (rest : List Waiting) → P w → All P rest → All P (before lost w item rest)
@@ -63,7 +64,7 @@ module _ (rules : Rules) (latest : ℕ) (told : List Said) (old : CellView) (our
   Asked w = IsAsked (rules_at rules old.number) (pairs_of told) w.item
 
   abbrev Runs : Partition → Waiting → Type 0
-  Runs base w = EndsPending base w.item
+  Runs base w = WasAsked rules.flows base w.item
 
   front : (P : Entry → Type 0) (n : ℕ) → All P old.entries → All P (take n old.entries)
   front P n all = all_front P (take n old.entries) (drop n old.entries) (subst (All P) (sym (take-append-drop n old.entries)) all)
@@ -72,7 +73,7 @@ module _ (rules : Rules) (latest : ℕ) (told : List Said) (old : CellView) (our
   given_up_ours kept out given = (
     record {
       ours = front (IsOurs rules latest (pairs_of told) old.number) kept ours.ours;
-      run = λ base is serves. front (λ (entry : Entry). All (EndsPending base) entry.items) kept (ours.run base is serves);
+      run = λ base is serves. front (λ (entry : Entry). All (WasAsked rules.flows base) entry.items) kept (ours.run base is serves);
     },
     record { asked = λ serves. All-filter lasting Asked old.waits (waits.asked serves); run = λ base is serves. All-filter lasting (Runs base) old.waits (waits.run base is serves) },
   )

@@ -23,10 +23,11 @@ use Rattle.hub_store.specs.Trail.{Said}
 use Rattle.log_items.specs.declared.items.Packet.{Packet}
 use Rattle.many_rules.specs.Rules.{Rules, IsOurs, rules_at, pairs_of}
 use Rattle.part_steps.specs.Enabled.{is_at, stamp_at}
-use Rattle.run_rules.specs.Rules.{Told, IsAsked, IsBy, EndsPending}
+use Rattle.run_rules.specs.Rules.{Told, IsAsked, IsBy}
 use Rattle.run_rules.specs.Rules as one
 use Rattle.spec_cell.specs.Turns.{MakesEntry}
 use Rattle.spec_cell.specs.Views.{CellView, HasFacts}
+use Rattle.task_laws.specs.Asked.{WasAsked}
 
 -- ---- items
 
@@ -46,13 +47,13 @@ own_by top (got source number message) stamp low is = tt
 own_by top (ended id task outcome) stamp low is = tt
 own_by top (trim reader number) stamp low is = tt
 
-own_ends : (base : Partition) (item : Item) (stamp : ℕ) → is_at item stamp ≡ true → EndsPending base item
-own_ends base (ran from to at) stamp is = tt
-own_ends base (fired id task at) stamp is = tt
-own_ends base (took message) stamp is = tt
-own_ends base (got source number message) stamp is = tt
-own_ends base (ended id task outcome) stamp is = absurd (cc is)
-own_ends base (trim reader number) stamp is = tt
+own_was : (flows : Flows) (base : Partition) (item : Item) (stamp : ℕ) → is_at item stamp ≡ true → WasAsked flows base item
+own_was flows base (ran from to at) stamp is = tt
+own_was flows base (fired id task at) stamp is = tt
+own_was flows base (took message) stamp is = tt
+own_was flows base (got source number message) stamp is = tt
+own_was flows base (ended id task outcome) stamp is = absurd (cc is)
+own_was flows base (trim reader number) stamp is = tt
 
 -- what waits has no stamp
 wait_by : (top : ℕ) (activity : Option Activity) (item : Item) → MayWait (record { item = item; activity = activity }) → IsBy top item
@@ -121,8 +122,8 @@ module _ (rules : Rules) (latest : ℕ) (told : List Said) (mode : Mode) (limit 
     timely = all_items (IsBy top) (own_by top) (waits_by top old.waits facts.waits);
   }
 
-  abbrev Ends : Partition → Entry → Type 0
-  Ends base entry = All (EndsPending base) entry.items
+  abbrev Were : Partition → Entry → Type 0
+  Were base entry = All (WasAsked rules.flows base) entry.items
 
   abbrev after : CellView
   after = record old { entries = old.entries ++ makes.entry ∷ []; waits = makes.rest; round = next_round old.round }
@@ -131,14 +132,14 @@ module _ (rules : Rules) (latest : ℕ) (told : List Said) (mode : Mode) (limit 
   still_ours = record {
     ours = All-append (IsOurs rules latest (pairs_of told) old.number) old.entries (makes.entry ∷ []) ours.ours (All-cons (IsOurs rules latest (pairs_of told) old.number) makes.entry [] one_more (All-nil (IsOurs rules latest (pairs_of told) old.number)));
     run = λ base is serves.
-        All-append (Ends base) old.entries (makes.entry ∷ []) (ours.run base is serves)
-        (All-cons (Ends base) makes.entry [] (all_items (EndsPending base) (λ item stamp by at. own_ends base item stamp at) (waits.run base is serves)) (All-nil (Ends base)));
+        All-append (Were base) old.entries (makes.entry ∷ []) (ours.run base is serves)
+        (All-cons (Were base) makes.entry [] (all_items (WasAsked rules.flows base) (λ item stamp by at. own_was rules.flows base item stamp at) (waits.run base is serves)) (All-nil (Were base)));
   }
 
   still_wait : WaitOurs rules told after
   still_wait = record {
     asked = λ serves. rest_of (λ (w : Waiting). IsAsked (rules_at rules old.number) (pairs_of told) w.item) (waits.asked serves);
-    run = λ base is serves. rest_of (λ (w : Waiting). EndsPending base w.item) (waits.run base is serves);
+    run = λ base is serves. rest_of (λ (w : Waiting). WasAsked rules.flows base w.item) (waits.run base is serves);
   }
 
   pub made_ours : AreOurs rules latest told new × WaitOurs rules told new

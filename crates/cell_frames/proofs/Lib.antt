@@ -1,3 +1,4 @@
+pub mod Asked
 pub mod Behind
 pub mod ByItself
 pub mod Calls
@@ -10,6 +11,7 @@ pub mod Joined
 pub mod Ledgers
 pub mod LetGo
 pub mod Reading
+pub mod Said
 pub mod Stays
 pub mod Unlost
 pub mod Written

@@ -1,5 +1,5 @@
 -- Where a call begins, as far as it is known whatever the disk tells.
-use Rattle.std.specs.Prelude.{◌≡◌, ◌<◌, ◌≤◌, ℕ, [], false, Some}
+use Rattle.std.specs.Prelude.{◌≡◌, ◌<◌, ◌≤◌, ℕ, [], Some}
 use Rattle.dura_model.specs.Partition.{fresh}
 use Rattle.hub_store.specs.Frames.{goes_on}
 use Rattle.hub_store.specs.Origin.{Origin}
@@ -14,10 +14,9 @@ pub record GoesOnAt (log state : Next) : Type 0 where
   pub incarnation : log.incarnation ≤ state.incarnation
 
 -- Entries were accepted in an order and made the states, each at the next position of its partition; each partition's log goes on where
--- its state does. The call serves nobody: it takes what comes.
+-- its state does.
 pub record HasBegun (o : Origin) (rules : Rules) : Type 0 where
   pub goes : (partition : ℕ) → partition < rules.count → GoesOnAt (goes_on (o.logs partition) []) (state_next (rules.begin partition))
   pub below : AllBelow rules.count rules.recovered
   pub made : states_after rules.flows rules.count fresh rules.recovered ≡ Some rules.begin
   pub numbered : AreNumbered fresh rules.recovered
-  pub silent : rules.serves ≡ false

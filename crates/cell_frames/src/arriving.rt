@@ -11,7 +11,7 @@ ghost use Rattle.dura_value.specs.declared.outcome.Outcome.{Outcome};
 ghost use Rattle.flow_syntax.specs.Syntax.{Flows};
 ghost use Rattle.hub_store.specs.Trail.{Said};
 ghost use Rattle.many_rules.specs.Rules.{Rules, rules_at, pairs_of};
-ghost use Rattle.run_rules.specs.Rules.{IsAsked, EndsPending};
+ghost use Rattle.run_rules.specs.Rules.{IsAsked};
 ghost use Rattle.spec_cell.specs.Comes.{Arrives, Records, Offers};
 ghost use Rattle.spec_cell.specs.Moves.{IsRewound, IsReset, IsKept};
 ghost use Rattle.spec_cell.specs.Trims.{Trims};
@@ -20,9 +20,10 @@ ghost use Rattle.spec_cell.specs.declared.coming.Arrived.{Arrived};
 ghost use Rattle.spec_cell.specs.declared.coming.Offered.{Offered};
 ghost use Rattle.spec_cell.specs.declared.coming.Recorded.{Recorded};
 ghost use Rattle.spec_tracker.specs.declared.marks.Marks.{Marks};
+ghost use Rattle.task_laws.specs.Asked.{WasAsked};
 
 /// What a cell holds and what waits there is the call's still once something came to it: a packet, whatever it brings; a request, where it
-/// is asked for; an outcome, where its activity is pending in the settled state. The last two are asked only of a call that serves
+/// is asked for; an outcome, where its activity was asked for by what is settled. The last two are asked only of a call that serves
 /// clients.
 pub fn what_comes_is_ours()
     ensures arrives { (rules : Rules) (latest : ℕ) (told : List Said) (old new : CellView)
@@ -41,7 +42,7 @@ pub fn what_comes_is_ours()
         (ahead : Partition) (id : Id) (task : ℕ) (activity : Activity) (outcome : Outcome)
         (recorded : Recorded) → AreOurs rules latest told old → WaitOurs rules told old
         → ((base : Partition) → IsBase rules.flows rules.count (rules.begin old.number) old base
-        → rules.serves ≡ true → EndsPending base (ended id task outcome))
+        → rules.serves ≡ true → WasAsked rules.flows base (ended id task outcome))
         → Records ahead id task activity outcome old recorded new
         → AreOurs rules latest told new × WaitOurs rules told new }
 {}

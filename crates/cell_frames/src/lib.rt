@@ -13,7 +13,7 @@
 //! - `arriving`: what comes to a cell, and what it gives up, leaves it the call's. `trims`: it lets go of no more than was read.
 //! - `logs`: a frame is written and read again where its log goes on, and what it sends goes to partitions that there are.
 //! - `lost`: no incarnation gave up an entry of a picked frame (`specs/Unlost`).
-//! - `alone`: what a cell does without the store, and what comes to it, leaves it joined to it.
+//! - `alone`: what a cell does without the store, what comes to it, and what the store says leave it joined to it.
 #![tactic(auto)]
 
 mod alone;

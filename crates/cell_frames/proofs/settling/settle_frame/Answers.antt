@@ -50,7 +50,7 @@ returns-in-Ok-packets-clause-joined g c = λ going.
     let slot : Slot = record { token = 0; mine = c.of-seat.result.mark.mine; under_way = None; stage = stages.Resting; floors = [] } in
     let facts = c.if-not-is_going.ensures.facts refl in
     let has = on_ok (HasSettled c.out-count.result slot cell c.settled-stub.new.self) c.settled-stub.result.1 c.in-Ok-packets.packets c.in-Ok-packets.is c.settled-stub.ensures.settled in
-    settled_joined rules c.requires.begun.silent c.args.part settles.at settles.entries (view_of old) (view_of new) settles.trail makes keeps.logs.latest keeps.logs.said (ap (λ f. f c.args.part) keeps.floors) cell c.settled-stub.new.self slot
+    settled_joined rules c.args.part settles.at settles.entries (view_of old) (view_of new) settles.trail makes keeps.logs.latest keeps.logs.said (ap (λ f. f c.args.part) keeps.floors) cell c.settled-stub.new.self slot
     facts.within frame (subst (λ (n : ℕ). HasSettled n slot cell c.settled-stub.new.self) c.out-count.ensures has)
     (c.of-seat.ensures.mine ∙ ap (of_part c.args.part) c.settled.ensures) c.requires.joined.goes c.in-Ok.ensures.ok (rests_none (way_of new.logs.ways.items c.args.part) c.in-Ok.ensures.ok)
 
