@@ -1,0 +1,5 @@
+pub mod Answered
+pub mod Asking
+pub mod Looking
+pub mod Quieted
+pub mod Stirred
