@@ -1,8 +1,5 @@
-pub mod Cells
+pub mod Brought
 pub mod Happened
-pub mod KnownMarks
-pub mod KnownReaders
-pub mod Moved
 pub mod Names
 pub mod Said
 pub mod Settling

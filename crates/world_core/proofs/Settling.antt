@@ -1,6 +1,5 @@
 -- What settling a cell's frame leaves of what was read, and of what was settled.
-use Rattle.std.proofs.Common.{◌≡◌, ◌⊎◌, inl, inr, true, false, Bool, ℕ, List, ◌++◌, append-nil, Vec, Global, Result, Ok, Err, Some, slice_get, sym, ◌∙◌, ap, subst, arith}
-use Rattle.cell_frames.proofs.Stays.{same_reads}
+use Rattle.std.proofs.Common.{◌≡◌, ◌⊎◌, inl, inr, true, false, Bool, ℕ, List, ◌++◌, append-nil, Vec, Global, Result, Ok, Some, slice_get, sym, ◌∙◌, ap, subst}
 use Rattle.cell_frames.specs.Joined.{StoreView}
 use Rattle.cell_frames.specs.Judges.{Judges}
 use Rattle.cell_frames.specs.Owns.{Opens}
@@ -8,31 +7,17 @@ use Rattle.cell_frames.specs.Settles.{IsOnTrail, SettlesFrame}
 use Rattle.cell_frames.specs.declared.owning.Reopened.{Reopened}
 use Rattle.cell_frames.specs.declared.owning.Reopened.TheVariants as reopenings
 use Rattle.cell_frames.specs.declared.settling.SettleRefusal.{SettleRefusal}
-use Rattle.cell_frames.specs.declared.settling.SettleRefusal.TheVariants as refusals
 use Rattle.cell_steps.specs.declared.mode.Mode.{Mode}
 use Rattle.log_items.specs.declared.items.Packet.{Packet}
 use Rattle.many_rules.specs.Rules.{Rules}
 use Rattle.spec_cell.specs.Views.{CellView}
 use Rattle.spec_cell.specs.declared.moving.CellRewind.{CellRewind}
 use Rattle.spec_tracker.specs.declared.marks.Marks.{Marks}
-use Rattle.world_core.proofs.Worlds.{ReadsOn}
-use Rattle.world_core.specs.Happens.{CellBecomes}
-use Rattle.world_core.specs.TakesOver.{packets_in, IsReopened, TakesOver, CantTakeOver, TakenBy}
-use Rattle.world_core.specs.declared.taking_over.Taken.{Taken}
-use Rattle.world_core.specs.declared.taking_over.Taken.TheVariants as takings
-
-module _ (rules : Rules) (p : ℕ) (mode : Mode) (old new : StoreView) (c after : CellView) where
-  pub settling_reads : (IsOnTrail p old new c → ReadsOn rules old new) → (r : Result (Vec Packet Global) SettleRefusal) → SettlesFrame rules p mode old new c after r → ReadsOn rules old new
-  settling_reads on (Ok packets) is = on is.0
-  settling_reads on (Err refusals.NoFrame) is = λ source reader. same_reads rules source old new (ap (λ (s : StoreView). s.trail) is.2) reader
-  settling_reads on (Err refusals.SiteFault) is = λ source reader. same_reads rules source old new is.1 reader
-  settling_reads on (Err refusals.Memory) is = on is
-
-  pub fault_settles_nothing : (r : Result (Vec Packet Global) SettleRefusal) → SettlesFrame rules p mode old new c after r → r ≡ Err refusals.SiteFault → new.trail ≡ old.trail
-  fault_settles_nothing (Ok packets) is same = absurd (cc same)
-  fault_settles_nothing (Err refusals.NoFrame) is same = absurd (cc same)
-  fault_settles_nothing (Err refusals.SiteFault) is same = is.1
-  fault_settles_nothing (Err refusals.Memory) is same = absurd (cc same)
+use Rattle.world_steps.specs.Cells.{CellBecomes}
+use Rattle.world_core.specs.Reopens.{packets_in, IsReopened}
+use Rattle.world_steps.specs.TakesOver.{TakesOver, CantTakeOver, TakenBy}
+use Rattle.world_steps.specs.declared.taking_over.Taken.{Taken}
+use Rattle.world_steps.specs.declared.taking_over.Taken.TheVariants as takings
 
 -- a call said that it is settled, with these packets
 pub settled_becomes : (rules : Rules) (p : ℕ) (mode : Mode) (old new : StoreView) (cells later : List CellView) (r : Result (Vec Packet Global) SettleRefusal) (packets : Vec Packet Global) → r ≡ Ok packets
@@ -46,20 +31,10 @@ judged_becomes rules p marks old new cells later r k is says = record { cell = s
 -- ---- a log that was opened again
 
 module _ (rules : Rules) (p : ℕ) (mode : Mode) (old new : StoreView) (c after : CellView) where
-  pub opening_reads : (IsOnTrail p old new c → ReadsOn rules old new) → (r : Result Reopened SettleRefusal) → Opens rules p mode old new c r after → ReadsOn rules old new
-  opening_reads on (Ok (reopenings.Settled packets)) is = on is.0
-  opening_reads on (Ok reopenings.Dropped) is = λ source reader. same_reads rules source old new is.1 reader
-  opening_reads on (Err refusals.NoFrame) is = absurd is
-  opening_reads on (Err refusals.SiteFault) is = λ source reader. same_reads rules source old new is.1 reader
-  opening_reads on (Err refusals.Memory) is = on is
-
   -- nothing is settled by it, or the frame that was out
   pub opens_one : (r : Reopened) → Opens rules p mode old new c (Ok r) after → (new.trail ≡ old.trail) ⊎ IsOnTrail p old new c
   opens_one (reopenings.Settled packets) is = inr is.0
   opens_one reopenings.Dropped is = inl is.1
-
-pub reads_then : (rules : Rules) (a b d : StoreView) → ReadsOn rules a b → b.trail ≡ d.trail → ReadsOn rules a d
-reads_then rules a b d on same source reader = let first = on source reader in let then = same_reads rules source b d (sym same) reader in omega (arith, first, then)
 
 -- ---- taking over
 

@@ -1,22 +1,12 @@
 -- A life goes on, or is over.
-use Rattle.std.proofs.Common.{◌≡◌, ◌≤◌, ◌<◌, true, false, Bool, Result, Ok, Err, take, slice_set, get_or, append-nil, refl, ℕ, zero, suc, List, [], ◌∷◌, ◌++◌, length, Some, slice_get, inl, inr, sym, ◌∙◌, ap, subst, arith}
+use Rattle.std.proofs.Common.{◌≡◌, true, false, Bool, ℕ, zero, suc, List, [], ◌∷◌, ◌++◌, length, Some, slice_get, inl, inr, sym, ◌∙◌, subst, arith}
 use Rattle.std.specs.List.{Contains}
 use Rattle.std.proofs.lemmas.List.Elements.{Contains-append_cases}
-use Rattle.std.proofs.lemmas.List.{set-get_or}
 use Rattle.std.proofs.lemmas.Option.{slice_get_within, get_or_from_slice_get}
-use Rattle.cell_frames.proofs.Calls.{may_go}
-use Rattle.cell_frames.proofs.Stays.{same_reads, more_read}
-use Rattle.cell_frames.specs.Joined.{StoreView, Joined, read_by, view_of}
-use Rattle.cell_frames.specs.Settles.{IsOnTrail}
-use Rattle.cell_frames.specs.Writes.{Writes}
+use Rattle.cell_frames.specs.Joined.{StoreView, view_of}
 use Rattle.commit_gate.specs.Views.{floors_of}
 use Rattle.gated_store.specs.Keeps.{KeepsGate}
-use Rattle.gated_store.specs.Kept.{IsKept}
-use Rattle.hub_store.specs.Trail.{settling}
-use Rattle.hub_store.specs.declared.refusal.BodyRefusal.{BodyRefusal}
-use Rattle.hub_store.specs.declared.refusal.BodyRefusal.TheVariants as refusals
-use Rattle.many_rules.specs.Ledgers.{ledgers, readers}
-use Rattle.many_rules.specs.Makes.{Makes}
+use Rattle.many_rules.specs.Ledgers.{ledgers}
 use Rattle.gated_store.specs.declared.local.Gated as gated_types
 use Rattle.gated_store.specs.declared.store.GatedStore.{GatedStore}
 use Rattle.hub_store.specs.Changes.{stage_at, going_at, trail_in, told_in}
@@ -27,20 +17,15 @@ use Rattle.log_items.specs.declared.items.Packet.{Packet}
 use Rattle.many_rules.specs.Rules.{Rules}
 use Rattle.spec_cell.specs.Views.{CellView}
 use Rattle.spec_tracker.specs.declared.marks.Marks.{Marks}
-use Rattle.spec_tracker.specs.declared.marks.Read.{Read}
-use Rattle.world_core.specs.World.{WorldView, world, AllJoined, AreHeard, Stands, AreMarksOf}
+use Rattle.world_core.specs.World.{WorldView, world, AreHeard, Stands}
+use Rattle.world_steps.proofs.ReadOn.{ReadsOn}
+use Rattle.world_steps.specs.Cells.{AllJoined}
+use Rattle.world_steps.specs.Known.{AreMarksOf}
 
--- nobody has taken in less
-abbrev pub ReadsOn : Rules → (old new : StoreView) → Type 0
-ReadsOn rules old new = (source reader : ℕ) → read_by rules old source reader ≤ read_by rules new source reader
-
-no_both : {X : Type 0} (b : _) → b ≡ true → b ≡ false → X
+-- a test isn't both
+pub no_both : {X : Type 0} (b : _) → b ≡ true → b ≡ false → X
 no_both true yes_is no_is = absurd (cc no_is)
 no_both false yes_is no_is = absurd (cc yes_is)
-
-pub not_closed : (b : Bool) → (b ≡ false → ⊥) → b ≡ true
-not_closed true never = refl
-not_closed false never = absurd (never refl)
 
 pub still_heard : (rules : Rules) (old new : StoreView) (all : List Marks) → ReadsOn rules old new → AreHeard rules old all → AreHeard rules new all
 still_heard rules old new all more heard marks read there inside = let low = heard marks read there inside in let on = more read.source read.reader in omega (arith, low, on)
@@ -196,27 +181,3 @@ heard_noted rules s all later noted heard = subst (AreHeard rules s) (sym noted.
 -- what was told of before
 pub heard_same : (rules : Rules) (s : StoreView) (all later : List Marks) → later ≡ all → AreHeard rules s all → AreHeard rules s later
 heard_same rules s all later same heard = subst (AreHeard rules s) (sym same) heard
-
--- nothing is settled by writing a frame
-pub writes_trail : (rules : Rules) (p : ℕ) (marks : Marks) (old new : StoreView) (c after : CellView) (r : Result Bool BodyRefusal) → Writes rules p marks old new c after r → new.trail ≡ old.trail
-writes_trail rules p marks old new c after (Ok true) is = is.0.trail
-writes_trail rules p marks old new c after (Ok false) is = ap (λ (s : StoreView). s.trail) is.1
-writes_trail rules p marks old new c after (Err (refusals.Full at length)) is = is.1.1
-writes_trail rules p marks old new c after (Err refusals.SiteFault) is = is.0.trail
-writes_trail rules p marks old new c after (Err refusals.Memory) is = is.1
-
--- a cell that stays in its place
-pub same_place : (cells : List CellView) (p : ℕ) (c after : CellView) → c ≡ get_or cells p c → after ≡ c → slice_set cells p after ≡ cells
-same_place cells p c after value same = ap (slice_set cells p) (same ∙ value) ∙ set-get_or cells p c
-
--- what was settled of a frame of a cell lets no read fall back
-pub settled_reads : {V L : Type 0} {G : sites.Ghosts V} {K : starts.Ghosts (gated_types.Gated L)} (rules : Rules) (count p : ℕ) (old : GatedStore V L G K) (new : StoreView) (c : CellView) → p < count → IsKept count (ledgers rules) (readers rules) (Makes rules) old
-    → Joined rules (view_of old) p c → IsOnTrail p (view_of old) new c → ReadsOn rules (view_of old) new
-settled_reads rules count p old new c below kept joined settled = by c.out refl
-  where
-    by : (n : ℕ) → c.out ≡ n → ReadsOn rules (view_of old) new
-    by zero none = λ source reader. same_reads rules source (view_of old) new
-        (settled.trail ∙ ap (λ (n : ℕ). trail_in old.logs ++ settling p settled.at (take n c.entries)) none ∙ append-nil (trail_in old.logs)) reader
-    by (suc n) some =
-        let going : going_at old.logs p ≡ Some (take c.out c.entries) = joined.out.goes (omega (arith, some)) in
-        more_read rules p settled.at (take c.out c.entries) (view_of old) new settled.trail (may_go rules count p old (take c.out c.entries) below kept going)

@@ -1,5 +1,5 @@
 -- A frame that would make its log too long.
-use Rattle.std.proofs.Common.{◌≡◌, ℕ, Bool, List, Some, Result, Ok, Err, sym, ◌∙◌, ap, subst}
+use Rattle.std.proofs.Common.{◌≡◌, ℕ, Bool, List, Result, Ok, Err, sym, ◌∙◌, subst}
 use Rattle.cell_frames.specs.Joined.{StoreView}
 use Rattle.cell_frames.specs.Writes.{Writes, IsFull}
 use Rattle.dura_value.proofs.Basics.{some_same}
@@ -9,7 +9,7 @@ use Rattle.hub_store.specs.declared.way.Way.{Way}
 use Rattle.many_rules.specs.Rules.{Rules}
 use Rattle.spec_cell.specs.Views.{CellView}
 use Rattle.spec_tracker.specs.declared.marks.Marks.{Marks}
-use Rattle.world_core.specs.Happens.{CellBecomes}
+use Rattle.world_steps.specs.Cells.{CellBecomes}
 
 module _ (rules : Rules) (p : ℕ) (marks : Marks) (old new : StoreView) (cells later : List CellView) (segment : ℕ) (way : Way) where
   -- the same cell would make it so long

@@ -1,5 +1,5 @@
 -- What an event makes of the world.
-use Rattle.std.specs.Prelude.{◌≡◌, ◌≢◌, ◌⊎◌, ℕ, false, true, max, List, [], ◌∷◌, ◌++◌, Some, None, Ok, Err, slice_get, slice_set, Result}
+use Rattle.std.specs.Prelude.{◌≡◌, ◌≢◌, ◌⊎◌, ℕ, false, true, max, List, [], ◌∷◌, ◌++◌, Some, None, Ok, Err, slice_get}
 use Rattle.std.specs.List.{All}
 use Rattle.std.specs.declared.alloc.Global.{Global}
 use Rattle.std.specs.declared.vec.Vec.{Vec}
@@ -11,14 +11,11 @@ use Rattle.cell_frames.specs.declared.owning.Reopened.TheVariants as reopenings
 use Rattle.cell_steps.specs.declared.mode.Mode.{Mode}
 use Rattle.cell_waits.specs.declared.wait.Ended.{Ended}
 use Rattle.commit_gate.specs.Refused.{Passes, RefusesFirst}
-use Rattle.dura_model.specs.Partition.{Partition}
 use Rattle.dura_value.specs.Ids.{home}
 use Rattle.dura_value.specs.Items.{Entry}
 use Rattle.dura_value.specs.Messages.{Message}
-use Rattle.dura_value.specs.Views.{id_of, message_of}
+use Rattle.dura_value.specs.Views.{message_of}
 use Rattle.gated_store.specs.Follows.{ledgers_at}
-use Rattle.gated_store.specs.declared.refusal.SayRefusal.{SayRefusal}
-use Rattle.gated_store.specs.declared.refusal.SayRefusal.TheVariants as say_refusals
 use Rattle.hub_store.specs.Changes.{asked}
 use Rattle.hub_store.specs.Ways.{is_open}
 use Rattle.hub_store.specs.declared.refusal.BodyRefusal.TheVariants as body_refusals
@@ -29,34 +26,25 @@ use Rattle.log_items.specs.declared.items.Packet.{Packet}
 use Rattle.many_rules.specs.Answering.{answer}
 use Rattle.many_rules.specs.Ledgers.{ledgers}
 use Rattle.many_rules.specs.Rules.{Rules}
-use Rattle.part_rows.specs.Views.{activity_of}
-use Rattle.spec_cell.specs.Comes.{Arrives, Records, Offers}
-use Rattle.spec_cell.specs.Trims.{Trims}
 use Rattle.spec_cell.specs.Turns.{IsHeld, MakesEntry, IsIdle, IsSpent}
-use Rattle.spec_cell.specs.Views.{CellView, IsBase, IsAhead, CountsDue}
+use Rattle.spec_cell.specs.Views.{CellView, CountsDue}
 use Rattle.spec_cell.specs.declared.coming.Arrived.{Arrived}
 use Rattle.spec_cell.specs.declared.coming.Arrived.TheVariants as arrivals
-use Rattle.spec_cell.specs.declared.coming.Offered.{Offered}
 use Rattle.spec_cell.specs.declared.coming.Offered.TheVariants as offers
-use Rattle.spec_cell.specs.declared.coming.Recorded.{Recorded}
 use Rattle.spec_cell.specs.declared.coming.Recorded.TheVariants as records
 use Rattle.spec_cell.specs.declared.moving.CellRewind.TheVariants as rewinds
 use Rattle.spec_tracker.specs.declared.marks.Marks.{Marks}
-use Rattle.world_core.specs.TakesOver.{packets_in, TakesOver, CantTakeOver}
+use Rattle.world_core.specs.Reopens.{packets_in}
+use Rattle.world_steps.specs.TakesOver.{TakesOver, CantTakeOver}
 use Rattle.world_core.specs.Unmet.{is_unmet, is_outcome, place_ago}
-use Rattle.world_core.specs.World.{WorldView, AreMarksOf}
+use Rattle.world_core.specs.World.{WorldView}
+use Rattle.world_steps.specs.Cells.{CellBecomes}
+use Rattle.world_steps.specs.Comes.{OffersTo, ArrivesAt, RecordsAt, TrimsAt}
+use Rattle.world_steps.specs.Known.{AreMarksOf}
 use Rattle.world_core.specs.declared.answer.Answer.{Answer}
 use Rattle.world_core.specs.declared.answer.Answer.TheVariants as answers
 use Rattle.world_core.specs.declared.event.Event.{Event}
 use Rattle.world_core.specs.declared.event.Event.TheVariants as events
-
--- A partition's cell became another, which this says of both; the other cells stay.
-pub record CellBecomes (partition : ℕ) (old new : List CellView) (Does : CellView → CellView → Type 0) : Type 0 where
-  pub cell : CellView
-  pub after : CellView
-  pub there : slice_get old partition ≡ Some cell
-  pub becomes : new ≡ slice_set old partition after
-  pub does : Does cell after
 
 -- only cells changed
 abbrev pub OnlyCells : (old new : WorldView) → Type 0
@@ -84,28 +72,17 @@ pub record EndsAs (old new : WorldView) : Type 0 where
 -- ---- what comes to a cell
 
 module _ (rules : Rules) where
-  -- what an offered request comes to at a cell, by its states
-  abbrev pub OffersTo : Message → Offered → (c after : CellView) → Type 0
-  OffersTo message offered c after =
-      (base : Partition) × IsBase rules.flows rules.count (rules.begin c.number) c base
-      × ((ahead : Partition) × IsAhead rules.flows rules.count (rules.begin c.number) c ahead × Offers base ahead message c offered after)
-
   abbrev pub HasSubmitted : Message → (old new : WorldView) → Answer → Type 0
-  HasSubmitted message old new answers.Queued = OnlyCells old new × CellBecomes (home rules.count message.from) old.cells new.cells (OffersTo message offers.Queued)
-  HasSubmitted message old new answers.Taken = OnlyCells old new × CellBecomes (home rules.count message.from) old.cells new.cells (OffersTo message offers.Taken)
-  HasSubmitted message old new (answers.Answered reply) = OnlyCells old new × CellBecomes (home rules.count message.from) old.cells new.cells (OffersTo message (offers.Kept reply))
-  HasSubmitted message old new answers.Clash = OnlyCells old new × CellBecomes (home rules.count message.from) old.cells new.cells (OffersTo message offers.Clash)
+  HasSubmitted message old new answers.Queued = OnlyCells old new × CellBecomes (home rules.count message.from) old.cells new.cells (OffersTo rules message offers.Queued)
+  HasSubmitted message old new answers.Taken = OnlyCells old new × CellBecomes (home rules.count message.from) old.cells new.cells (OffersTo rules message offers.Taken)
+  HasSubmitted message old new (answers.Answered reply) = OnlyCells old new × CellBecomes (home rules.count message.from) old.cells new.cells (OffersTo rules message (offers.Kept reply))
+  HasSubmitted message old new answers.Clash = OnlyCells old new × CellBecomes (home rules.count message.from) old.cells new.cells (OffersTo rules message offers.Clash)
   HasSubmitted message old new answers.Memory = EndsLife old new
   HasSubmitted message old new other = ⊥
 
-  abbrev pub ArrivesAt : Packet → Arrived → (c after : CellView) → Type 0
-  ArrivesAt packet arrived c after =
-      (ahead : Partition) × IsAhead rules.flows rules.count (rules.begin c.number) c ahead
-      × Arrives ahead (record { partition = packet.src; incarnation = packet.inc; position = packet.pos }) packet.seq (message_of packet.message) c arrived after
-
   -- the packet that was sent at this place comes
   abbrev pub Brings : (partition place : ℕ) → (old new : WorldView) → Arrived → Type 0
-  Brings partition place old new arrived = OnlyCells old new × ((packet : Packet) × (slice_get old.packets place ≡ Some packet) × CellBecomes partition old.cells new.cells (ArrivesAt packet arrived))
+  Brings partition place old new arrived = OnlyCells old new × ((packet : Packet) × (slice_get old.packets place ≡ Some packet) × CellBecomes partition old.cells new.cells (ArrivesAt rules packet arrived))
 
   abbrev pub HasArrived : (partition packet : ℕ) → (old new : WorldView) → Answer → Type 0
   HasArrived partition place old new answers.Queued = Brings partition place old new arrivals.Queued
@@ -114,23 +91,15 @@ module _ (rules : Rules) where
   HasArrived partition place old new answers.Memory = EndsLife old new
   HasArrived partition place old new other = ⊥
 
-  abbrev pub RecordsAt : Ended → Recorded → (c after : CellView) → Type 0
-  RecordsAt ended recorded c after =
-      (ahead : Partition) × IsAhead rules.flows rules.count (rules.begin c.number) c ahead
-      × Records ahead (id_of ended.id) ended.task (activity_of ended.activity) ended.outcome c recorded after
-
   abbrev pub HasRecorded : (partition : ℕ) → Ended → (old new : WorldView) → Answer → Type 0
-  HasRecorded partition ended old new answers.Recorded = OnlyCells old new × CellBecomes partition old.cells new.cells (RecordsAt ended records.Recorded)
-  HasRecorded partition ended old new answers.NotPending = OnlyCells old new × CellBecomes partition old.cells new.cells (RecordsAt ended records.NotPending)
+  HasRecorded partition ended old new answers.Recorded = OnlyCells old new × CellBecomes partition old.cells new.cells (RecordsAt rules ended records.Recorded)
+  HasRecorded partition ended old new answers.NotPending = OnlyCells old new × CellBecomes partition old.cells new.cells (RecordsAt rules ended records.NotPending)
   HasRecorded partition ended old new answers.Memory = EndsLife old new
   HasRecorded partition ended old new other = ⊥
 
-  abbrev pub TrimsAt : Marks → (count : ℕ) → (c after : CellView) → Type 0
-  TrimsAt marks count c after = (ahead : Partition) × IsAhead rules.flows rules.count (rules.begin c.number) c ahead × Trims marks ahead c count after
-
   abbrev pub HasTrimmed : (partition marks : ℕ) → (old new : WorldView) → Answer → Type 0
   HasTrimmed partition place old new (answers.Trimmed count) =
-      OnlyCells old new × ((marks : Marks) × (slice_get old.marks place ≡ Some marks) × CellBecomes partition old.cells new.cells (TrimsAt marks count))
+      OnlyCells old new × ((marks : Marks) × (slice_get old.marks place ≡ Some marks) × CellBecomes partition old.cells new.cells (TrimsAt rules marks count))
   HasTrimmed partition place old new answers.Memory = EndsLife old new
   HasTrimmed partition place old new other = ⊥
 
@@ -236,14 +205,6 @@ module _ (rules : Rules) where
   HasOwned mode partition node old new other = ⊥
 
   -- ---- answers
-
-  -- the line is said that answers the request as what is settled has it; or nothing has, or nothing is said for another cause
-  abbrev pub SaysAs : (name : List ℕ) → (number : ℕ) → (old new : WorldView) → Result (Unit {0}) SayRefusal → Type 0
-  SaysAs name number old new (Ok done) =
-      ((line : List ℕ) × (answer rules old.store.trail (asked name number) ≡ Some line)) × (new ≡ record old { store = record old.store { told = old.store.told ++ asked name number ∷ [] } })
-  SaysAs name number old new (Err say_refusals.NotAnswered) = (answer rules old.store.trail (asked name number) ≡ None) × (new ≡ old)
-  SaysAs name number old new (Err say_refusals.Memory) = new ≡ old
-  SaysAs name number old new (Err say_refusals.SayFault) = (new.store.trail ≡ old.store.trail) × (new.store.told ≡ old.store.told)
 
   abbrev pub HasSaid : (name : List ℕ) → (number : ℕ) → (old new : WorldView) → Answer → Type 0
   HasSaid name number old new answers.Said =

@@ -1,4 +1,4 @@
 pub mod Happens
-pub mod TakesOver
+pub mod Reopens
 pub mod Unmet
 pub mod World

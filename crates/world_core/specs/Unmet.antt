@@ -2,12 +2,10 @@
 use Rattle.std.specs.Prelude.{ℕ, Bool, true, false, ◌==◌, ◌||◌, not, ◌^◌, ◌+◌, ◌-◌, List, length, nat_lt, nat_le, Option, Some, None}
 use Rattle.std.specs.List.{slice_get}
 use Rattle.activity_table.specs.Table.{may}
-use Rattle.cell_waits.specs.declared.wait.Ended.{Ended}
 use Rattle.hub_store.specs.declared.way.Stage.{Stage}
 use Rattle.hub_store.specs.declared.way.Stage.TheVariants as stages
 use Rattle.hub_store.specs.Ways.{is_open}
 use Rattle.log_items.specs.declared.items.Packet.{Packet}
-use Rattle.part_rows.specs.Views.{activity_of}
 use Rattle.spec_tracker.specs.declared.marks.Marks.{Marks}
 use Rattle.world_core.specs.World.{WorldView}
 use Rattle.world_core.specs.declared.event.Event.{Event}

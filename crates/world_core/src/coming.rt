@@ -1,6 +1,6 @@
 //! What comes to the partitions in a life: requests, packets, outcomes, moments, and what was read of their streams.
 
-ghost use Rattle.std.specs.Prelude.{◌≡◌, ◌<◌, ◌≤◌, ◌^◌, false, true, length};
+ghost use Rattle.std.specs.Prelude.{◌≡◌, ◌<◌, ◌≤◌, ◌^◌, false, true, length, IfOk};
 ghost use Rattle.activity_table.specs.Table.{may};
 ghost use Rattle.cell_frames.specs.Begun.{HasBegun};
 ghost use Rattle.dura_value.specs.Views.{message_of};
@@ -12,16 +12,18 @@ ghost use Rattle.world_core.specs.Unmet.{is_not_to};
 ghost use Rattle.world_core.specs.World.{Stands, world};
 
 use crate::answer::Answer;
-use crate::comes::{arrive_at, fire_at, offer_at, record_at, trim_at};
 use crate::life::Life;
 use crate::marking::{marks_at, packet_at};
 use cell_waits::Ended;
 use dura_value::{Message, home};
 use gated_store::GatedStore;
+use log_items::Packet;
 use many_rules::{ByRules, Picked};
+use part_rows::copy_message;
 use site_model::Site;
 use spec_cell::{Arrived, Offered, Recorded};
-use std::alloc::Global;
+use std::alloc::{AllocError, Global};
+use world_steps::{arrive_at, fire_at, offer_at, record_at, trim_at};
 
 /// A client's request comes to the partition in which the client lives.
 pub(crate) fn submit<V: Site, M: Picked>(
@@ -31,6 +33,7 @@ pub(crate) fn submit<V: Site, M: Picked>(
     request: Message,
 ) -> Answer
     requires begun { HasBegun M.origin M.rules }
+    requires silent { M.rules.serves ≡ false }
     requires stands { Stands M.rules (world store.now life.old.cells.items
         life.old.packets.items life.old.marks.items life.old.ended) }
     requires going { life.old.ended ≡ false }
@@ -56,6 +59,23 @@ pub(crate) fn submit<V: Site, M: Picked>(
     }
 }
 
+/// The same packet, in memory of its own.
+fn copy_of(packet: &Packet) -> Result<Packet, AllocError>
+    ensures { IfOk result (λ copy. (copy.src ≡ packet.now.src) × (copy.dst ≡ packet.now.dst)
+        × (copy.inc ≡ packet.now.inc) × (copy.pos ≡ packet.now.pos)
+        × (copy.seq ≡ packet.now.seq)
+        × (message_of copy.message ≡ message_of packet.now.message)) }
+{
+    Ok(Packet {
+        src: packet.src,
+        dst: packet.dst,
+        inc: packet.inc,
+        pos: packet.pos,
+        seq: packet.seq,
+        message: copy_message(&packet.message)?,
+    })
+}
+
 /// A packet that was sent comes to its partition.
 pub(crate) fn arrive<V: Site, M: Picked>(
     alloc: Global,
@@ -79,12 +99,11 @@ pub(crate) fn arrive<V: Site, M: Picked>(
         life.new.packets.items life.new.marks.items life.new.ended) result }
     ensures fixed { (life.new.mode ≡ life.old.mode) × (life.new.nodes ≡ life.old.nodes) }
 {
-    match arrive_at(
-        alloc,
-        &mut life.cells,
-        part,
-        packet_at(&life.packets, packet),
-    ) {
+    let Ok(copy) = copy_of(packet_at(&life.packets, packet)) else {
+        life.ended = true;
+        return Answer::Memory;
+    };
+    match arrive_at(alloc, &mut life.cells, part, copy) {
         Ok(Arrived::Queued) => Answer::Queued,
         Ok(Arrived::Repeat(next)) => Answer::Repeat(next),
         Ok(Arrived::Gap(next)) => Answer::Gap(next),
@@ -104,6 +123,7 @@ pub(crate) fn record<V: Site, M: Picked>(
     ended: Ended,
 ) -> Answer
     requires begun { HasBegun M.origin M.rules }
+    requires silent { M.rules.serves ≡ false }
     requires stands { Stands M.rules (world store.now life.old.cells.items
         life.old.packets.items life.old.marks.items life.old.ended) }
     requires going { life.old.ended ≡ false }

@@ -32,6 +32,7 @@ fn make<V: Site, M: Picked, R: Reactions>(
     event: Event,
 ) -> Answer
     requires begun { HasBegun M.origin M.rules }
+    requires silent { M.rules.serves ≡ false }
     requires flows { R.flows reactions.now ≡ M.rules.flows }
     requires kept { IsKept M.origin.count (ledgers M.rules) (readers M.rules) (Makes M.rules)
         store.old }
@@ -94,6 +95,7 @@ pub fn happen<V: Site, M: Picked, R: Reactions>(
     event: Event,
 ) -> Answer
     requires begun { HasBegun M.origin M.rules }
+    requires silent { M.rules.serves ≡ false }
     requires flows { R.flows reactions.now ≡ M.rules.flows }
     requires kept { IsKept M.origin.count (ledgers M.rules) (readers M.rules) (Makes M.rules)
         store.old }

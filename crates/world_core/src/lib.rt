@@ -2,25 +2,17 @@
 #![tactic(auto)]
 
 mod answer;
-mod comes;
 mod coming;
 mod event;
-mod frames;
-mod gates;
-mod given_up;
 mod happening;
-mod known;
 mod life;
 mod marking;
 mod meeting;
 mod outcomes;
 mod saying;
-mod taking_over;
-mod turning;
 mod working;
 
 pub use answer::Answer;
 pub use event::Event;
 pub use happening::happen;
-pub use known::look_at;
 pub use life::Life;

@@ -7,8 +7,8 @@ ghost use Rattle.gated_store.specs.Kept.{IsKept};
 ghost use Rattle.many_rules.specs.Ledgers.{ledgers, readers};
 ghost use Rattle.many_rules.specs.Makes.{Makes};
 ghost use Rattle.spec_tracker.specs.declared.marks.Marks.{Marks as KnownMarks};
-ghost use Rattle.world_core.specs.TakesOver.{IsReopened};
-ghost use Rattle.world_core.specs.World.{AreMarksOf};
+ghost use Rattle.world_core.specs.Reopens.{IsReopened};
+ghost use Rattle.world_steps.specs.Known.{AreMarksOf};
 
 use cell_frames::Reopened;
 use gated_store::GatedStore;
@@ -17,6 +17,7 @@ use many_rules::{ByRules, Picked};
 use site_model::Site;
 use spec_tracker::Marks;
 use std::alloc::{AllocError, Global};
+use world_steps::marks_now;
 
 /// What is known of the logs now comes behind what was known before.
 pub(crate) fn note_marks<V: Site, M: Picked>(
@@ -37,7 +38,7 @@ pub(crate) fn note_marks<V: Site, M: Picked>(
         × AreMarksOf M.rules (view_of store.old) now) }
     ensures same { OnErr result (marks.new.items ≡ marks.old.items) }
 {
-    let now = store.marks(alloc, count)?;
+    let now = marks_now(alloc, store, count)?;
     marks.push(now)?;
     Ok(())
 }

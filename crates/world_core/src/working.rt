@@ -10,13 +10,8 @@ ghost use Rattle.world_core.specs.Happens.{HasTurned, HasWritten, HasSynced, Has
 ghost use Rattle.world_core.specs.World.{Stands, world};
 
 use crate::answer::Answer;
-use crate::frames::{settle_at, write_at};
-use crate::gates::{open_gate, sync_frame};
-use crate::given_up::judge_at;
 use crate::life::Life;
 use crate::marking::{marks_at, note_marks, note_packets, note_taken};
-use crate::taking_over::{Taken, take_over_at};
-use crate::turning::turn_at;
 use cell_frames::SettleRefusal;
 use gated_store::{GateRefusal, GatedStore};
 use hub_store::{BodyRefusal, Refusal};
@@ -25,6 +20,9 @@ use part_rows::Reactions;
 use site_model::Site;
 use spec_cell::{CellRewind, CellTurn};
 use std::alloc::Global;
+use world_steps::{
+    Taken, judge_at, open_gate, settle_at, sync_frame, take_over_at, turn_at, write_at,
+};
 
 /// The life is over, for want of memory.
 pub(crate) fn out_of_memory<M: Picked>(life: &mut Life<M>) -> Answer

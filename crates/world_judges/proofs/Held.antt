@@ -5,7 +5,8 @@ use Rattle.cell_steps.specs.declared.mode.Mode.{Mode}
 use Rattle.dura_value.specs.Items.{Entry}
 use Rattle.many_rules.specs.Rules.{Rules}
 use Rattle.spec_cell.specs.Views.{CellView}
-use Rattle.world_core.specs.Happens.{CellBecomes, HasJudged, Happens}
+use Rattle.world_steps.specs.Cells.{CellBecomes}
+use Rattle.world_core.specs.Happens.{HasJudged, Happens}
 use Rattle.world_core.specs.Unmet.{is_unmet, place_ago}
 use Rattle.world_core.specs.World.{WorldView}
 use Rattle.world_core.specs.declared.answer.Answer.{Answer}

@@ -13,7 +13,8 @@ use Rattle.spec_cell.specs.Views.{CellView, IsBase}
 use Rattle.spec_tracker.specs.declared.marks.Marks.{Marks}
 use Rattle.world_core.specs.Happens.{Happens, HasJudged}
 use Rattle.world_core.specs.Unmet.{names_nothing, has_no_frame, place_ago}
-use Rattle.world_core.specs.World.{WorldView, AreMarksOf}
+use Rattle.world_core.specs.World.{WorldView}
+use Rattle.world_steps.specs.Known.{AreMarksOf}
 use Rattle.world_core.specs.declared.answer.Answer.{Answer}
 use Rattle.world_core.specs.declared.answer.Answer.TheVariants as answers
 use Rattle.world_core.specs.declared.event.Event.TheVariants as events

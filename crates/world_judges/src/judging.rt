@@ -1,6 +1,6 @@
 //! All cells are judged.
 
-ghost use Rattle.std.specs.Prelude.{◌≡◌, IfOk, Ok, Err, Result};
+ghost use Rattle.std.specs.Prelude.{◌≡◌, false, IfOk, Ok, Err, Result};
 ghost use Rattle.cell_frames.specs.Begun.{HasBegun};
 ghost use Rattle.gated_store.specs.Kept.{IsKept};
 ghost use Rattle.many_rules.specs.Ledgers.{ledgers, readers};
@@ -13,7 +13,8 @@ use many_rules::{ByRules, Picked};
 use part_rows::Reactions;
 use site_model::Site;
 use std::alloc::Global;
-use world_core::{Answer, Event, Life, happen, look_at};
+use world_core::{Answer, Event, Life, happen};
+use world_steps::look_at;
 
 /// Judges each cell in turn, by what is known of the logs by then. It says whether nothing was given up, or what a Judge answers that is
 /// neither Kept nor Rewound, which ends it.
@@ -24,6 +25,7 @@ fn judge_each<V: Site, M: Picked, R: Reactions>(
     life: &mut Life<M>,
 ) -> Result<bool, Answer>
     requires begun { HasBegun M.origin M.rules }
+    requires silent { M.rules.serves ≡ false }
     requires flows { R.flows reactions.now ≡ M.rules.flows }
     requires kept { IsKept M.origin.count (ledgers M.rules) (readers M.rules) (Makes M.rules)
         store.old }
@@ -69,6 +71,7 @@ pub fn judge_all<V: Site, M: Picked, R: Reactions>(
     life: &mut Life<M>,
 ) -> Result<(), Answer>
     requires begun { HasBegun M.origin M.rules }
+    requires silent { M.rules.serves ≡ false }
     requires flows { R.flows reactions.now ≡ M.rules.flows }
     requires kept { IsKept M.origin.count (ledgers M.rules) (readers M.rules) (Makes M.rules)
         store.old }

@@ -19,7 +19,8 @@ use Rattle.spec_tracker.specs.Marks.{length_in, floors_of, read_in}
 use Rattle.spec_tracker.specs.declared.marks.Marks.{Marks}
 use Rattle.world_core.specs.Happens.{OnlyCells, HasSubmitted, HasArrived, HasRecorded, HasTrimmed, HasFired, HasTurned, MovesFrame, HasWritten, HasSynced, HasGated, MarksNow, HasSettledFrame, HasJudged, HasOwned, HasSaid, Makes, Happens}
 use Rattle.world_core.specs.Unmet.{is_unmet, place_ago}
-use Rattle.world_core.specs.World.{WorldView, AreMarksOf}
+use Rattle.world_core.specs.World.{WorldView}
+use Rattle.world_steps.specs.Known.{AreMarksOf}
 use Rattle.world_core.specs.declared.answer.Answer.{Answer}
 use Rattle.world_core.specs.declared.answer.Answer.TheVariants as answers
 use Rattle.world_core.specs.declared.event.Event.{Event}

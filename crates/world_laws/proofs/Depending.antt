@@ -19,7 +19,8 @@ use Rattle.many_rules.specs.Rules.{Rules}
 use Rattle.spec_cell.specs.Views.{CellView}
 use Rattle.spec_tracker.specs.Marks.{floors_of}
 use Rattle.spec_tracker.specs.declared.marks.Marks.{Marks}
-use Rattle.world_core.specs.World.{WorldView, Stands, AreMarksOf}
+use Rattle.world_core.specs.World.{WorldView, Stands}
+use Rattle.world_steps.specs.Known.{AreMarksOf}
 use Rattle.world_laws.proofs.Lists.{there_is}
 use Rattle.world_laws.proofs.Marks.{lost_marked}
 use Rattle.world_laws.proofs.Naming.{cons_cases, depends_named}

@@ -21,7 +21,9 @@ use Rattle.spec_cell.specs.declared.coming.Offered.TheVariants as offers
 use Rattle.spec_cell.specs.declared.coming.Recorded.{Recorded}
 use Rattle.spec_cell.specs.declared.coming.Recorded.TheVariants as records
 use Rattle.spec_tracker.specs.declared.marks.Marks.{Marks}
-use Rattle.world_core.specs.Happens.{CellBecomes, OnlyCells, OffersTo, HasSubmitted, ArrivesAt, Brings, HasArrived, RecordsAt, HasRecorded, TrimsAt, HasTrimmed, HasFired, MovesFrame, HasSynced, HasGated, HasSaid}
+use Rattle.world_steps.specs.Cells.{CellBecomes}
+use Rattle.world_core.specs.Happens.{OnlyCells, HasSubmitted, Brings, HasArrived, HasRecorded, HasTrimmed, HasFired, MovesFrame, HasSynced, HasGated, HasSaid}
+use Rattle.world_steps.specs.Comes.{OffersTo, ArrivesAt, RecordsAt, TrimsAt}
 use Rattle.world_core.specs.Unmet.{is_not_to}
 use Rattle.world_core.specs.World.{WorldView}
 use Rattle.world_core.specs.declared.answer.Answer.{Answer}

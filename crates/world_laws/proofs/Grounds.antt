@@ -30,7 +30,8 @@ use Rattle.site_model.specs.declared.site.Site as sites
 use Rattle.spec_cell.specs.Views.{CellView, HasFacts}
 use Rattle.spec_tracker.specs.declared.marks.Marks.{Marks}
 use Rattle.trail_states.proofs.States.{makes_states}
-use Rattle.world_core.specs.World.{Stands, AllKnown, world}
+use Rattle.world_core.specs.World.{Stands, world}
+use Rattle.world_steps.specs.Cells.{AllKnown}
 use Rattle.world_laws.specs.Lives.{IsWell}
 use Rattle.world_laws.specs.Made.{IsGrounded}
 

@@ -8,7 +8,7 @@ use Rattle.dura_value.specs.Items.{Identity, Floor}
 use Rattle.many_rules.specs.Rules.{Rules}
 use Rattle.spec_tracker.specs.Marks.{floors_of}
 use Rattle.spec_tracker.specs.declared.marks.Marks.{Marks}
-use Rattle.world_core.specs.World.{AreMarksOf}
+use Rattle.world_steps.specs.Known.{AreMarksOf}
 use Rattle.world_laws.specs.Made.{MarksHold}
 
 in_ranges : {Y : Type 0} (f : ℕ → List Y) (first n k : ℕ) (y : Y) → k < n → Contains (f (first + k)) y → Contains (flat_map f (range_with_len first n)) y

@@ -9,7 +9,8 @@ use Rattle.std.specs.declared.vec.Vec.{Vec}
 use Rattle.cell_frames.specs.declared.owning.Reopened.{Reopened}
 use Rattle.cell_frames.specs.declared.owning.Reopened.TheVariants as reopenings
 use Rattle.spec_cell.specs.Seats.{Slot}
-use Rattle.world_core.specs.TakesOver.{packets_in, TakesOver, CantTakeOver}
+use Rattle.world_core.specs.Reopens.{packets_in}
+use Rattle.world_steps.specs.TakesOver.{TakesOver, CantTakeOver}
 use Rattle.std.proofs.lemmas.Option.{slice_get_within, slice_get-get_or}
 use Rattle.cell_frames.specs.Joined.{StoreView, Joined}
 use Rattle.cell_frames.specs.Unlost.{floor_of}
@@ -26,7 +27,8 @@ use Rattle.many_rules.specs.Rules.{Rules}
 use Rattle.spec_cell.specs.Turns.{MakesEntry}
 use Rattle.spec_cell.specs.Views.{CellView, HasFacts}
 use Rattle.spec_tracker.specs.declared.marks.Marks.{Marks}
-use Rattle.world_core.specs.Happens.{CellBecomes, OnlyCells, HasTurned, HasWritten, MarksNow, HasSettledFrame, HasJudged, HasOwned}
+use Rattle.world_steps.specs.Cells.{CellBecomes}
+use Rattle.world_core.specs.Happens.{OnlyCells, HasTurned, HasWritten, MarksNow, HasSettledFrame, HasJudged, HasOwned}
 use Rattle.world_core.specs.World.{WorldView, Stands}
 use Rattle.world_core.specs.declared.answer.Answer.{Answer}
 use Rattle.world_core.specs.declared.answer.Answer.TheVariants as answers

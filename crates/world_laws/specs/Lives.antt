@@ -6,7 +6,8 @@ use Rattle.many_rules.specs.Rules.{Rules}
 use Rattle.spec_cell.specs.Views.{CellView}
 use Rattle.spec_tracker.specs.declared.marks.Marks.{Marks}
 use Rattle.world_core.specs.Happens.{Happens}
-use Rattle.world_core.specs.World.{WorldView, Stands, AreMarksOf}
+use Rattle.world_core.specs.World.{WorldView, Stands}
+use Rattle.world_steps.specs.Known.{AreMarksOf}
 use Rattle.world_core.specs.declared.answer.Answer.{Answer}
 use Rattle.world_core.specs.declared.event.Event.{Event}
 use Rattle.world_laws.specs.Made.{MarksHold, IsGrounded}

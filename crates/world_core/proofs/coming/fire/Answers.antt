@@ -1,8 +1,8 @@
-use Rattle.std.proofs.Common.{◌≡◌, ℕ, max, sym, subst, ◌∙◌, refl}
+use Rattle.std.proofs.Common.{max, sym, subst, ◌∙◌}
 use Rattle.cell_frames.proofs.Stays.{same_reads}
 use Rattle.cell_frames.specs.Joined.{StoreView, view_of}
 use Rattle.world_core.proofs.Worlds.{alive_by, still_heard, raised, is_world}
-use Rattle.world_core.specs.World.{AllJoined}
+use Rattle.world_steps.specs.Cells.{AllJoined}
 use Rattle.world_core.proofs.coming.fire.Goals as goal
 
 pub returns-clause-stands : goal.returns-clause-stands

@@ -1,4 +1,4 @@
-use Rattle.std.proofs.Common.{◌≡◌, ◌∙◌, false, refl, sym, subst, ap}
+use Rattle.std.proofs.Common.{◌∙◌, refl, sym, subst, ap}
 use Rattle.world_core.proofs.Happened.{happened, unlooked}
 use Rattle.world_core.proofs.Worlds.{over_by}
 use Rattle.world_core.specs.World.{Stands, world}

@@ -1,7 +1,7 @@
-use Rattle.std.proofs.Common.{◌≡◌, ◌-◌, ◌+◌, ℕ, false, length, sym, subst, arith}
+use Rattle.std.proofs.Common.{◌≡◌, ℕ, false, length, sym, subst, arith}
 use Rattle.world_core.proofs.Happened.{may_there, ago_place}
 use Rattle.world_core.specs.Happens.{HasWritten, HasJudged, HasTrimmed, Makes}
-use Rattle.world_core.specs.Unmet.{names_nothing, place_ago}
+use Rattle.world_core.specs.Unmet.{names_nothing}
 use Rattle.world_core.specs.World.{world}
 use Rattle.world_core.specs.declared.event.Event.{Event}
 use Rattle.world_core.proofs.happening.make.Goals as goal

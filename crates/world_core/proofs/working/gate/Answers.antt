@@ -1,8 +1,8 @@
-use Rattle.std.proofs.Common.{◌≡◌, ◌∙◌, refl, sym, subst, ap}
+use Rattle.std.proofs.Common.{◌∙◌, refl, sym, subst, ap}
 use Rattle.cell_frames.proofs.Stays.{same_reads}
 use Rattle.cell_frames.specs.Joined.{view_of}
 use Rattle.hub_store.specs.Ways.{stage_of, going_in}
-use Rattle.world_core.proofs.Worlds.{frame_world, alive, over, alive_by, over_by, still_heard, more_heard, get_contains}
+use Rattle.world_core.proofs.Worlds.{frame_world, alive_by, over_by, still_heard}
 use Rattle.world_core.specs.World.{Stands, world}
 use Rattle.world_core.proofs.working.gate.Goals as goal
 

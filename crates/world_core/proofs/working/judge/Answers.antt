@@ -1,12 +1,11 @@
-use Rattle.std.proofs.Common.{◌≡◌, ◌∙◌, ℕ, Bool, Ok, Err, refl, sym, subst, ap}
+use Rattle.std.proofs.Common.{◌∙◌, refl, sym, subst, ap}
 use Rattle.cell_frames.proofs.Stays.{same_reads}
-use Rattle.cell_frames.specs.Joined.{StoreView, view_of}
+use Rattle.cell_frames.specs.Joined.{view_of}
 use Rattle.hub_store.specs.Changes.{trail_in}
-use Rattle.world_core.proofs.Settling.{settled_becomes, judged_becomes, done_becomes, spent_becomes, fault_takes_nothing, may_settle_memory, may_settle_done, may_settle_spent}
+use Rattle.world_core.proofs.Settling.{judged_becomes}
 use Rattle.world_core.proofs.Worlds.{alive_by, over_by, still_heard, heard_noted, heard_same, same_world, logs_world}
-use Rattle.world_core.proofs.Written.{written, full_written, full_is_no_fault}
-use Rattle.world_core.specs.Happens.{HasSettledFrame, HasJudged, HasOwned}
-use Rattle.world_core.specs.World.{WorldView, AllJoined, Stands, world}
+use Rattle.world_core.specs.Happens.{HasJudged}
+use Rattle.world_core.specs.World.{WorldView, Stands, world}
 use Rattle.world_core.specs.declared.answer.Answer.TheVariants as answers
 use Rattle.world_core.proofs.working.judge.Goals as goal
 

@@ -1,12 +1,9 @@
-use Rattle.std.proofs.Common.{◌≡◌, ◌∙◌, ℕ, Bool, true, [], Ok, Err, refl, sym, subst, ap}
-use Rattle.cell_frames.proofs.Stays.{same_reads}
+use Rattle.std.proofs.Common.{◌∙◌, true, [], refl, sym, subst, ap}
 use Rattle.cell_frames.specs.Joined.{StoreView, view_of}
-use Rattle.hub_store.specs.Changes.{trail_in}
-use Rattle.world_core.proofs.Settling.{settled_becomes, judged_becomes, done_becomes, spent_becomes, fault_takes_nothing, MaySettle, may_settle_done, may_settle_spent, owned_settled, owned_dropped, reopened_packets}
-use Rattle.world_core.proofs.Worlds.{alive_by, over_by, still_heard, heard_noted, heard_same, same_world, logs_world}
-use Rattle.world_core.proofs.Written.{written, full_written, full_is_no_fault}
-use Rattle.world_core.specs.Happens.{HasSettledFrame, HasJudged, HasOwned}
-use Rattle.world_core.specs.World.{WorldView, AllJoined, Stands, world}
+use Rattle.world_core.proofs.Settling.{done_becomes, spent_becomes, fault_takes_nothing, MaySettle, may_settle_done, may_settle_spent, owned_settled, owned_dropped, reopened_packets}
+use Rattle.world_core.proofs.Worlds.{alive_by, over_by, still_heard, heard_noted, heard_same, same_world}
+use Rattle.world_core.specs.Happens.{HasOwned}
+use Rattle.world_core.specs.World.{WorldView, Stands, world}
 use Rattle.world_core.specs.declared.answer.Answer.TheVariants as answers
 use Rattle.world_core.proofs.working.own.Goals as goal
 
@@ -28,7 +25,7 @@ returns-in-SiteFault-clause-makes g c =
 
 pub returns-in-Ok-true-clause-stands : goal.returns-in-Ok-true-clause-stands
 returns-in-Ok-true-clause-stands g c =
-    subst (Stands g.M.Picked.rules) (same_world c.take_over_at.new.store c.note_taken.new.store c.note_taken.ensures.logs c.note_taken.ensures.ledgers c.take_over_at.new.cells.items c.note_taken.new.sent.items c.note_taken.new.marks.items c.args.life.now.ended) (alive_by g.M.Picked.rules _ c.requires.stands (world c.take_over_at.new.store _ _ _ _) c.take_over_at.ensures.many (heard_noted g.M.Picked.rules (view_of c.take_over_at.new.store) c.args.life.now.marks.items _ c.in-Ok-true.ensures.noted (still_heard g.M.Picked.rules (view_of c.args.store.now) (view_of c.take_over_at.new.store) c.args.life.now.marks.items c.take_over_at.ensures.reads c.requires.stands.heard)) (c.in-Done.ensures.halts tt) c.take_over_at.ensures.whole (c.in-Done.ensures.joined tt))
+    subst (Stands g.M.Picked.rules) (same_world c.take_over_at.new.store c.note_taken.new.store c.note_taken.ensures.logs c.note_taken.ensures.ledgers c.take_over_at.new.cells.items c.note_taken.new.sent.items c.note_taken.new.marks.items c.args.life.now.ended) (alive_by g.M.Picked.rules _ c.requires.stands (world c.take_over_at.new.store _ _ _ _) c.take_over_at.ensures.many (heard_noted g.M.Picked.rules (view_of c.take_over_at.new.store) c.args.life.now.marks.items _ c.in-Ok-true.ensures.noted (still_heard g.M.Picked.rules (view_of c.args.store.now) (view_of c.take_over_at.new.store) c.args.life.now.marks.items c.take_over_at.ensures.reads c.requires.stands.heard)) (c.in-Done.ensures.halts tt) (c.take_over_at.ensures.keeps.whole ∙ c.requires.stands.whole c.requires.going) (c.in-Done.ensures.joined tt))
 
 pub returns-in-Ok-true-clause-makes : goal.returns-in-Ok-true-clause-makes
 returns-in-Ok-true-clause-makes g c =
@@ -37,7 +34,7 @@ returns-in-Ok-true-clause-makes g c =
 
 pub returns-in-Ok-false-clause-stands : goal.returns-in-Ok-false-clause-stands
 returns-in-Ok-false-clause-stands g c =
-    subst (Stands g.M.Picked.rules) (same_world c.take_over_at.new.store c.note_taken.new.store c.note_taken.ensures.logs c.note_taken.ensures.ledgers c.take_over_at.new.cells.items c.note_taken.new.sent.items c.note_taken.new.marks.items c.args.life.now.ended) (alive_by g.M.Picked.rules _ c.requires.stands (world c.take_over_at.new.store _ _ _ _) c.take_over_at.ensures.many (heard_noted g.M.Picked.rules (view_of c.take_over_at.new.store) c.args.life.now.marks.items _ c.in-Ok-false.ensures.noted (still_heard g.M.Picked.rules (view_of c.args.store.now) (view_of c.take_over_at.new.store) c.args.life.now.marks.items c.take_over_at.ensures.reads c.requires.stands.heard)) (c.in-Done.ensures.halts tt) c.take_over_at.ensures.whole (c.in-Done.ensures.joined tt))
+    subst (Stands g.M.Picked.rules) (same_world c.take_over_at.new.store c.note_taken.new.store c.note_taken.ensures.logs c.note_taken.ensures.ledgers c.take_over_at.new.cells.items c.note_taken.new.sent.items c.note_taken.new.marks.items c.args.life.now.ended) (alive_by g.M.Picked.rules _ c.requires.stands (world c.take_over_at.new.store _ _ _ _) c.take_over_at.ensures.many (heard_noted g.M.Picked.rules (view_of c.take_over_at.new.store) c.args.life.now.marks.items _ c.in-Ok-false.ensures.noted (still_heard g.M.Picked.rules (view_of c.args.store.now) (view_of c.take_over_at.new.store) c.args.life.now.marks.items c.take_over_at.ensures.reads c.requires.stands.heard)) (c.in-Done.ensures.halts tt) (c.take_over_at.ensures.keeps.whole ∙ c.requires.stands.whole c.requires.going) (c.in-Done.ensures.joined tt))
 
 pub returns-in-Ok-false-clause-makes : goal.returns-in-Ok-false-clause-makes
 returns-in-Ok-false-clause-makes g c =
@@ -46,7 +43,7 @@ returns-in-Ok-false-clause-makes g c =
 
 pub returns-in-Ok-clause-stands : goal.returns-in-Ok-clause-stands
 returns-in-Ok-clause-stands g c =
-    subst (Stands g.M.Picked.rules) (same_world c.take_over_at.new.store c.note_taken-in-Spent.new.store c.note_taken-in-Spent.ensures.logs c.note_taken-in-Spent.ensures.ledgers c.take_over_at.new.cells.items c.note_taken-in-Spent.new.sent.items c.note_taken-in-Spent.new.marks.items c.args.life.now.ended) (alive_by g.M.Picked.rules _ c.requires.stands (world c.take_over_at.new.store _ _ _ _) c.take_over_at.ensures.many (heard_noted g.M.Picked.rules (view_of c.take_over_at.new.store) c.args.life.now.marks.items _ c.in-Ok.ensures.noted (still_heard g.M.Picked.rules (view_of c.args.store.now) (view_of c.take_over_at.new.store) c.args.life.now.marks.items c.take_over_at.ensures.reads c.requires.stands.heard)) (c.in-Spent.ensures.halts tt) c.take_over_at.ensures.whole (c.in-Spent.ensures.joined tt))
+    subst (Stands g.M.Picked.rules) (same_world c.take_over_at.new.store c.note_taken-in-Spent.new.store c.note_taken-in-Spent.ensures.logs c.note_taken-in-Spent.ensures.ledgers c.take_over_at.new.cells.items c.note_taken-in-Spent.new.sent.items c.note_taken-in-Spent.new.marks.items c.args.life.now.ended) (alive_by g.M.Picked.rules _ c.requires.stands (world c.take_over_at.new.store _ _ _ _) c.take_over_at.ensures.many (heard_noted g.M.Picked.rules (view_of c.take_over_at.new.store) c.args.life.now.marks.items _ c.in-Ok.ensures.noted (still_heard g.M.Picked.rules (view_of c.args.store.now) (view_of c.take_over_at.new.store) c.args.life.now.marks.items c.take_over_at.ensures.reads c.requires.stands.heard)) (c.in-Spent.ensures.halts tt) (c.take_over_at.ensures.keeps.whole ∙ c.requires.stands.whole c.requires.going) (c.in-Spent.ensures.joined tt))
 
 pub returns-in-Ok-clause-makes : goal.returns-in-Ok-clause-makes
 returns-in-Ok-clause-makes g c =

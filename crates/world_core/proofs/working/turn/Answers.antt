@@ -1,7 +1,5 @@
-use Rattle.std.proofs.Common.{◌≡◌, ◌∙◌, refl, sym, subst, ap}
-use Rattle.cell_frames.proofs.Stays.{same_reads}
-use Rattle.cell_frames.specs.Joined.{view_of}
-use Rattle.world_core.proofs.Worlds.{alive, over, alive_by, over_by, still_heard, more_heard, get_contains}
+use Rattle.std.proofs.Common.{refl, sym, subst}
+use Rattle.world_core.proofs.Worlds.{alive, over_by}
 use Rattle.world_core.specs.World.{Stands, world}
 use Rattle.world_core.proofs.working.turn.Goals as goal
 

@@ -1,7 +1,8 @@
 use Rattle.std.proofs.Common.{◌≡◌, ◌∙◌, ◌&&◌, ◌+◌, ℕ, Bool, true, false, refl, sym, ap, subst, arith}
 use Rattle.cell_steps.specs.declared.mode.Mode.{Mode}
 use Rattle.world_core.specs.Happens.{Happens}
-use Rattle.world_core.specs.World.{AllKnown, world}
+use Rattle.world_steps.specs.Cells.{AllKnown}
+use Rattle.world_core.specs.World.{world}
 use Rattle.spec_tracker.specs.declared.marks.Dep.{Dep}
 use Rattle.world_core.specs.declared.answer.Answer.{Answer}
 use Rattle.world_core.specs.declared.answer.Answer.TheVariants as answers

@@ -1,0 +1,5 @@
+pub mod Cells
+pub mod Comes
+pub mod Known
+pub mod Says
+pub mod TakesOver
