@@ -15,7 +15,8 @@ use Rattle.many_rules.specs.Rules.{Answers}
 use Rattle.site_model.specs.History.{Step, tape, said as spoke}
 use Rattle.spec_tracker.specs.declared.marks.Marks.{Marks}
 use Rattle.world_core.specs.Happens.{Happens}
-use Rattle.world_core.specs.World.{WorldView, AreMarksOf}
+use Rattle.world_core.specs.World.{WorldView}
+use Rattle.world_steps.specs.Known.{AreMarksOf}
 use Rattle.world_core.specs.declared.answer.Answer.{Answer}
 use Rattle.world_core.specs.declared.answer.Answer.TheVariants as answers
 use Rattle.world_core.specs.declared.event.Event.TheVariants as events

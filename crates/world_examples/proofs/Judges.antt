@@ -6,7 +6,8 @@ use Rattle.spec_cell.specs.Views.{CellView}
 use Rattle.spec_tracker.specs.declared.marks.Marks.{Marks}
 use Rattle.world_core.specs.Happens.{Happens, HasJudged}
 use Rattle.world_core.specs.Unmet.{is_unmet, names_nothing, has_no_frame}
-use Rattle.world_core.specs.World.{WorldView, AreMarksOf}
+use Rattle.world_core.specs.World.{WorldView}
+use Rattle.world_steps.specs.Known.{AreMarksOf}
 use Rattle.world_core.specs.declared.answer.Answer.{Answer}
 use Rattle.world_core.specs.declared.answer.Answer.TheVariants as answers
 use Rattle.world_core.specs.declared.event.Event.TheVariants as events

@@ -11,7 +11,7 @@ use Rattle.many_rules.specs.Ledgers.{ledgers}
 use Rattle.spec_tracker.specs.Marks.{or_none, length_in, is_read_of, read_in}
 use Rattle.spec_tracker.specs.declared.marks.Marks.{Marks}
 use Rattle.spec_tracker.specs.declared.marks.Read.{Read}
-use Rattle.world_core.specs.World.{AreMarksOf}
+use Rattle.world_steps.specs.Known.{AreMarksOf}
 use Rattle.world_examples.proofs.NewWorlds.{store_with}
 use Rattle.world_examples.specs.Courses.{alone, begun, nothing_read, KnowsNothing}
 

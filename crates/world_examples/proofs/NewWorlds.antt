@@ -19,7 +19,8 @@ use Rattle.part_items.specs.Numbered.{IsNumbered}
 use Rattle.spec_cell.specs.Views.{CellView, HasFacts}
 use Rattle.spec_tracker.specs.declared.marks.Marks.{Marks}
 use Rattle.trail_states.specs.HaveMade.{HaveMade}
-use Rattle.world_core.specs.World.{WorldView, AreMarksOf, AreHeard}
+use Rattle.world_core.specs.World.{WorldView, AreHeard}
+use Rattle.world_steps.specs.Known.{AreMarksOf}
 use Rattle.world_examples.specs.Courses.{alone, first_cell, begun, beside}
 use Rattle.world_examples.specs.Worlds.{empty}
 use Rattle.world_laws.proofs.Marks.{marks_hold}

@@ -3,7 +3,8 @@
 ghost use Rattle.std.specs.Prelude.{◌≡◌, ℕ, true, false, [], ◌∷◌, Ok, Err, Bool};
 ghost use Rattle.cell_steps.specs.declared.mode.Mode.{Mode};
 ghost use Rattle.spec_tracker.specs.declared.marks.Marks.{Marks};
-ghost use Rattle.world_core.specs.World.{WorldView, AreMarksOf};
+ghost use Rattle.world_core.specs.World.{WorldView};
+ghost use Rattle.world_steps.specs.Known.{AreMarksOf};
 ghost use Rattle.world_core.specs.declared.answer.Answer.{Answer};
 ghost use Rattle.world_core.specs.declared.answer.Answer.TheVariants as answers;
 ghost use Rattle.world_examples.specs.Courses.{alone, begun};

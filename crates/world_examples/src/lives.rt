@@ -7,7 +7,7 @@ ghost use Rattle.hub_store.specs.Trail.{Said};
 ghost use Rattle.log_items.specs.declared.items.Packet.{Packet};
 ghost use Rattle.site_model.specs.History.{Step, said};
 ghost use Rattle.spec_tracker.specs.declared.marks.Marks.{Marks};
-ghost use Rattle.world_core.specs.World.{AreMarksOf};
+ghost use Rattle.world_steps.specs.Known.{AreMarksOf};
 ghost use Rattle.world_examples.specs.Courses.{Course, Fact, Holds, KnowsNothing, LacksJust, alone, begun, still, was_over, had_settled, had_said, had_sent, had_failed, knew_nothing, unasked, told_settled, said_more};
 ghost use Rattle.world_lives.specs.Lives.{WasLived};
 

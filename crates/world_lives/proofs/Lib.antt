@@ -1,7 +1,6 @@
 pub mod Begins
 pub mod Further
 pub mod Going
-pub mod Ledgers
 pub mod NewLives
 pub mod Passed
 pub mod Saying

@@ -2,6 +2,7 @@
 use Rattle.std.proofs.Common.{◌≡◌, ◌<◌, ◌∷◌, ℕ, false, List, [], sym, subst, arith, inl, inr}
 use Rattle.std.specs.List.{Contains}
 use Rattle.std.proofs.lemmas.List.Elements.{Contains-push_cases}
+use Rattle.call_begins.specs.Begins.{AllBegun}
 use Rattle.cell_frames.specs.Joined.{view_of}
 use Rattle.commit_gate.specs.Views.{floors_of}
 use Rattle.gated_store.specs.declared.local.Gated as gated_types
@@ -13,11 +14,11 @@ use Rattle.many_rules.specs.Rules.{Rules}
 use Rattle.site_model.specs.declared.site.Site as sites
 use Rattle.spec_cell.specs.Views.{CellView}
 use Rattle.spec_tracker.specs.declared.marks.Marks.{Marks}
-use Rattle.world_core.specs.World.{AreMarksOf, world}
+use Rattle.world_steps.specs.Known.{AreMarksOf}
+use Rattle.world_core.specs.World.{world}
 use Rattle.world_laws.proofs.Marks.{marks_hold}
 use Rattle.world_laws.specs.Lives.{IsNewLife, IsCurrent}
 use Rattle.world_laws.specs.Made.{MarksHold}
-use Rattle.world_lives.specs.Begins.{AllBegun}
 
 module _ {V L : Type 0} {G : sites.Ghosts V} {K : starts.Ghosts (gated_types.Gated L)} (rules : Rules) (old new : GatedStore V L G K) (logs : new.logs ≡ old.logs) (ledgers : new.ledgers ≡ old.ledgers) (first : Marks) (known : AreMarksOf rules (view_of old) first) (marks : List Marks) (marks_are : marks ≡ first ∷ []) where
   -- with the same logs and ledgers a store has the same

@@ -1,6 +1,6 @@
 //! A deed is done.
 
-ghost use Rattle.std.specs.Prelude.{◌≡◌};
+ghost use Rattle.std.specs.Prelude.{◌≡◌, false};
 ghost use Rattle.cell_frames.specs.Begun.{HasBegun};
 ghost use Rattle.gated_store.specs.Kept.{IsKept};
 ghost use Rattle.many_rules.specs.Ledgers.{ledgers, readers};
@@ -27,6 +27,7 @@ pub(crate) fn do_deed<V: Site, M: Picked, R: Reactions>(
     deed: Deed,
 ) -> Answer
     requires begun { HasBegun M.origin M.rules }
+    requires silent { M.rules.serves ≡ false }
     requires flows { R.flows reactions.now ≡ M.rules.flows }
     requires kept { IsKept M.origin.count (ledgers M.rules) (readers M.rules) (Makes M.rules)
         store.old }

@@ -1,7 +1,8 @@
 //! A life of the world.
 
-ghost use Rattle.std.specs.Prelude.{◌≡◌, ◌≤◌, ◌<◌, ◌^◌, ◌≢◌, ℕ, [], None, length, IfSome};
+ghost use Rattle.std.specs.Prelude.{◌≡◌, ◌≤◌, ◌<◌, ◌^◌, ◌≢◌, ℕ, [], false, None, length, IfSome};
 ghost use Rattle.std.specs.Vec.{vec_capacity};
+ghost use Rattle.call_begins.specs.Begins.{BeginsWith, IsUntouched};
 ghost use Rattle.cell_frames.specs.Begun.{HasBegun};
 ghost use Rattle.gated_store.specs.Kept.{IsKept};
 ghost use Rattle.hub_store.specs.Opened.{IsOrigin, HasBegun as StoreBegun};
@@ -14,17 +15,16 @@ ghost use Rattle.open_logs.specs.Moments.{OpensOnly};
 ghost use Rattle.open_logs.specs.Spent.{WhyUnopened};
 ghost use Rattle.site_model.specs.History.{content_of};
 ghost use Rattle.site_model.specs.Moments.{Always};
-ghost use Rattle.world_lives.specs.Begins.{BeginsWith, IsUntouched, rules_of};
+ghost use Rattle.world_lives.specs.Begins.{rules_of};
 ghost use Rattle.world_lives.specs.Lives.{WasLived, LeavesRuns, IsLife};
 
-use crate::beginning::{begin_life, ledgers_of};
+use crate::beginning::begin_life;
 use crate::deed::Deed;
 use crate::ending::end_life;
 use crate::lived::{Lived, out_of_memory, refused_by};
-use crate::named::{Named, Of, Since};
-use crate::placed::{PlacedMark, placed_by};
 use crate::playing::play;
 use crate::shape::Shape;
+use call_begins::{Named, Of, PlacedMark, Since, ledgers_of, placed_by};
 use gated_store::GatedStore;
 use hub_store::Ended;
 use many_rules::{ByRules, Picked, end_call};
@@ -35,7 +35,8 @@ use recover_core::RecoverError;
 use site_model::Site;
 use std::alloc::Global;
 use std::marker::Brand;
-use world_core::{Answer, look_at};
+use world_core::Answer;
+use world_steps::look_at;
 
 /// A life over a new store.
 fn live_over<V: Site, M: Picked, R: Reactions>(
@@ -49,6 +50,7 @@ fn live_over<V: Site, M: Picked, R: Reactions>(
     answers: Vec<Answer>,
 ) -> Lived<V>
     requires begun { HasBegun M.origin M.rules }
+    requires silent { M.rules.serves ≡ false }
     requires flows { R.flows reactions.now ≡ M.rules.flows }
     requires kept { IsKept M.origin.count (ledgers M.rules) (readers M.rules) (Makes M.rules)
         store }

@@ -1,6 +1,6 @@
 //! Deeds are done, one after another.
 
-ghost use Rattle.std.specs.Prelude.{◌≡◌, ◌≤◌, [], length};
+ghost use Rattle.std.specs.Prelude.{◌≡◌, ◌≤◌, [], false, length};
 ghost use Rattle.std.specs.Vec.{vec_capacity};
 ghost use Rattle.cell_frames.specs.Begun.{HasBegun};
 ghost use Rattle.gated_store.specs.Kept.{IsKept};
@@ -16,7 +16,8 @@ use many_rules::{ByRules, Picked};
 use part_rows::Reactions;
 use site_model::Site;
 use std::alloc::Global;
-use world_core::{Answer, Life, look_at};
+use world_core::{Answer, Life};
+use world_steps::look_at;
 
 /// Each deed is done, one after another, and there is room for what they come to.
 pub(crate) fn play<V: Site, M: Picked, R: Reactions>(
@@ -28,6 +29,7 @@ pub(crate) fn play<V: Site, M: Picked, R: Reactions>(
     answers: Vec<Answer>,
 ) -> Vec<Answer>
     requires begun { HasBegun M.origin M.rules }
+    requires silent { M.rules.serves ≡ false }
     requires flows { R.flows reactions.now ≡ M.rules.flows }
     requires kept { IsKept M.origin.count (ledgers M.rules) (readers M.rules) (Makes M.rules)
         store.old }

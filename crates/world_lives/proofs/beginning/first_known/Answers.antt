@@ -4,7 +4,7 @@ use Rattle.many_rules.specs.Ledgers.{ledgers, readers}
 use Rattle.many_rules.specs.Makes.{Makes}
 use Rattle.recover_core.proofs.Pushed.{pushed_items}
 use Rattle.spec_tracker.specs.declared.marks.Marks.{Marks}
-use Rattle.world_core.proofs.KnownMarks.{known_marks}
+use Rattle.world_steps.proofs.KnownMarks.{known_marks}
 use Rattle.world_lives.proofs.beginning.first_known.Goals as goal
 
 pub returns-clause-known : goal.returns-clause-known

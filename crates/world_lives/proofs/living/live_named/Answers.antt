@@ -1,4 +1,7 @@
-use Rattle.std.proofs.Common.{◌≡◌, ◌<◌, ◌∙◌, ℕ, List, [], Some, None, sym, ap, subst, slice_get}
+use Rattle.std.proofs.Common.{◌≡◌, ◌<◌, ◌∙◌, ℕ, false, List, [], Some, None, sym, ap, subst, slice_get}
+use Rattle.call_begins.specs.Begins.{AreLedgersOf, BeginsWith}
+use Rattle.call_begins.proofs.Going.{begins_with}
+use Rattle.call_begins.proofs.Ledgers.{ledgers_fit, none_given_up}
 use Rattle.commit_gate.specs.declared.ledger.Ledger.{Ledger}
 use Rattle.dura_value.specs.Items.{Floor}
 use Rattle.gated_store.specs.Kept.{LedgerFits}
@@ -8,9 +11,6 @@ use Rattle.many_rules.proofs.FirstLedgers.{streams_known}
 use Rattle.many_rules.specs.Ledgers.{ledgers, readers}
 use Rattle.many_rules.specs.Rules.{Rules}
 use Rattle.part_steps.specs.declared.state.PartState.{PartState}
-use Rattle.world_lives.specs.Begins.{AreLedgersOf, BeginsWith}
-use Rattle.world_lives.proofs.Going.{begins_with}
-use Rattle.world_lives.proofs.Ledgers.{ledgers_fit, none_given_up}
 use Rattle.world_lives.proofs.living.live_named.Goals as goal
 
 pub begin-requires-clause-fits : goal.begin-requires-clause-fits
@@ -44,9 +44,12 @@ live_over-requires-clause-untouched g c =
       whole = e.whole;
     }
 
+pub live_over-requires-clause-silent : goal.live_over-requires-clause-silent
+live_over-requires-clause-silent g c = ap (λ (r : Rules). r.serves) c.requires.rules
+
 pub live_over-requires-clause-begins : goal.live_over-requires-clause-begins
 live_over-requires-clause-begins g c =
     let begun = c.args.begun in
     subst (λ (l : List ℕ). BeginsWith g.N.Named.rules begun.states.items l) (sym c.deref-in-Ok-begin.ensures.value)
     (subst (λ (r : Rules). BeginsWith r begun.states.items begun.incarnations.items) (sym c.requires.rules)
-    (begins_with (g.R.Reactions.flows c.args.reactions.now) c.args.shape.count begun c.args.placed.run c.requires.some c.requires.few c.requires.can))
+    (begins_with (g.R.Reactions.flows c.args.reactions.now) c.args.shape.count begun c.args.placed.run [] false c.requires.some c.requires.few c.requires.can))

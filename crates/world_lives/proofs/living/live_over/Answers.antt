@@ -6,7 +6,8 @@ use Rattle.gated_store.specs.Follows.{ledgers_at}
 use Rattle.hub_store.specs.Changes.{trail_in, told_in}
 use Rattle.hub_store.specs.Trail.{Settled, settled_at}
 use Rattle.many_rules.specs.Ledgers.{ledgers}
-use Rattle.world_core.specs.World.{AllKnown, world}
+use Rattle.world_steps.specs.Cells.{AllKnown}
+use Rattle.world_core.specs.World.{world}
 use Rattle.world_laws.proofs.Grounds.{well_known}
 use Rattle.site_model.specs.Moments.{Always}
 use Rattle.world_lives.specs.Lives.{Lives, LeavesRuns, SaysAll}

@@ -1,4 +1,5 @@
-use Rattle.std.proofs.Common.{ℕ, List, refl, sym, subst}
+use Rattle.std.proofs.Common.{ℕ, false, List, [], refl, sym, subst}
+use Rattle.call_begins.proofs.Going.{has_begun}
 use Rattle.hub_store.specs.Trail.{settled_at}
 use Rattle.open_logs.proofs.KeptRun.{kept_by_other, same_own}
 use Rattle.open_logs.proofs.Picked.{origin_is}
@@ -8,7 +9,6 @@ use Rattle.order_laws.proofs.Stands.{order_stands}
 use Rattle.part_steps.specs.States.{parts_in}
 use Rattle.site_model.specs.History.{Step, back_to, content_of}
 use Rattle.world_lives.specs.Begins.{rules_of}
-use Rattle.world_lives.proofs.Going.{has_begun}
 use Rattle.world_lives.proofs.living.live_since.Goals as goal
 
 pub placed_by-placed-requires : goal.placed_by-placed-requires
@@ -21,7 +21,7 @@ pub live_named-requires-clause-made : goal.live_named-requires-clause-made
 live_named-requires-clause-made g c = c.placed_by-placed.ensures.0
 
 pub live_named-requires-clause-goes : goal.live_named-requires-clause-goes
-live_named-requires-clause-goes g c = has_begun (g.R.Reactions.flows c.args.reactions.now) c.args.shape.count c.args.shape.digest (g.V.Site.history c.open_logs.new.site) c.in-Ok.begun c.placed_by-placed.result.run c.placed_by-placed.ensures.0
+live_named-requires-clause-goes g c = has_begun (g.R.Reactions.flows c.args.reactions.now) c.args.shape.count c.args.shape.digest (g.V.Site.history c.open_logs.new.site) c.in-Ok.begun c.placed_by-placed.result.run [] false c.placed_by-placed.ensures.0
 
 pub live_named-requires-clause-origin : goal.live_named-requires-clause-origin
 live_named-requires-clause-origin g c = origin_is c.args.shape.count c.args.shape.digest (files_of c.in-Ok.begun.logs.items) (g.V.Site.history c.open_logs.new.site) (parts_in c.in-Ok.begun.states.items)

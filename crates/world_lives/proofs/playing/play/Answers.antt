@@ -2,7 +2,8 @@ use Rattle.std.proofs.Common.{◌≡◌, ◌∙◌, ◌++◌, ◌∷◌, ◌+◌
 use Rattle.cell_steps.specs.declared.mode.Mode.{Mode}
 use Rattle.open_logs.proofs.Pushed.{one_longer}
 use Rattle.recover_core.proofs.Pushed.{pushed_items}
-use Rattle.world_core.specs.World.{AllKnown, world}
+use Rattle.world_steps.specs.Cells.{AllKnown}
+use Rattle.world_core.specs.World.{world}
 use Rattle.world_core.specs.declared.answer.Answer.{Answer}
 use Rattle.world_laws.proofs.Grounds.{well_known}
 use Rattle.world_lives.specs.Lives.{Does, Lives, nothing, one_more}

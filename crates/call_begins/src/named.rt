@@ -1,4 +1,4 @@
-//! The name of where a life begins.
+//! The name of where a call begins.
 
 ghost use Rattle.std.specs.Prelude.{◌≡◌, List};
 ghost use Rattle.hub_store.specs.Origin.{Origin};
@@ -8,8 +8,8 @@ ghost use Rattle.site_model.specs.History.{Step};
 use many_rules::Picked;
 use std::marker::{Brand, PhantomData};
 
-/// Where a life begins, and by which rules it goes on. The call that begins it picks them.
-pub(crate) trait Named: Drop {
+/// Where a call begins, and by which rules it goes on. Who begins it picks them.
+pub trait Named: Drop {
     /// Where it begins.
     ghost origin: { Origin };
 
@@ -20,7 +20,7 @@ pub(crate) trait Named: Drop {
     ghost counts: { rules.count ≡ origin.count };
 }
 
-/// The name that a call picks: without a pick there is one partition, of which nothing was recovered.
+/// The name that is picked: without a pick there is one partition, of which nothing was recovered.
 impl Named for Brand {
     ghost use Rattle.std.specs.Prelude.{[], false, refl};
     ghost use Rattle.dura_model.specs.Partition.{fresh};
@@ -41,9 +41,9 @@ impl Named for Brand {
     ghost counts = { refl };
 }
 
-/// What the store of a life goes by.
+/// What the store of a call goes by.
 #[derive(Drop)]
-pub(crate) struct Of<N: Named> {
+pub struct Of<N: Named> {
     of: PhantomData<N>,
 }
 
@@ -55,8 +55,8 @@ impl<N: Named> Picked for Of<N> {
     ghost counts = { N.counts };
 }
 
-/// What happened before a life. The call that begins it picks it.
-pub(crate) trait Since {
+/// What happened before a call. Who begins it picks it.
+pub trait Since {
     /// What happened.
     ghost steps: { List Step };
 }

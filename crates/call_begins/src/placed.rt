@@ -9,8 +9,8 @@ use part_rows::Reactions;
 use site_model::Site;
 use std::marker::{Brand, Model, PhantomData};
 
-/// What is said of entries in their order. The call that makes a mark picks it.
-pub(crate) trait Told {
+/// What is said of entries in their order. Who makes a mark picks it.
+pub trait Told {
     /// It holds of these.
     ghost holds: { List Commit → Type 0 };
 }
@@ -22,9 +22,9 @@ impl Told for Brand {
 
 /// The entries that were recovered, in an order in which they were accepted. No memory holds them.
 #[derive(Drop)]
-pub(crate) struct PlacedMark {
+pub struct PlacedMark {
     marker: PhantomData<u8>,
-    pub(crate) ghost run: { List Commit },
+    pub ghost run: { List Commit },
 }
 
 impl Model for PlacedMark {
@@ -33,7 +33,7 @@ impl Model for PlacedMark {
 
 impl PlacedMark {
     /// Entries of which this holds, where there are some. It does nothing when it runs.
-    pub(crate) fn of<T: Told>() -> PlacedMark
+    pub fn of<T: Told>() -> PlacedMark
         requires { (run : List Commit) × T.holds run }
         ensures { T.holds result.run }
     {
@@ -43,8 +43,8 @@ impl PlacedMark {
     }
 }
 
-/// The same, where what is said speaks of what a life begins with.
-pub(crate) fn placed_by<T: Told, V: Site, R: Reactions>(
+/// The same, where what is said speaks of what a call begins with.
+pub fn placed_by<T: Told, V: Site, R: Reactions>(
     _site: &V,
     _reactions: &R,
     _digest: u64,

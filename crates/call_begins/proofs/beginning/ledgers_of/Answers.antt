@@ -1,10 +1,10 @@
 use Rattle.std.proofs.Common.{◌≡◌, ◌∙◌, ◌++◌, ◌∷◌, ◌+◌, [], ℕ, List, sym, ap, subst, length, arith, append_assoc}
 use Rattle.open_logs.proofs.Pushed.{one_longer}
 use Rattle.recover_core.proofs.Pushed.{pushed_items}
-use Rattle.world_lives.specs.Begins.{AreLedgersOf}
-use Rattle.world_lives.proofs.Begins.{within}
-use Rattle.world_lives.proofs.Ledgers.{one_more_shown}
-use Rattle.world_lives.proofs.beginning.ledgers_of.Goals as goal
+use Rattle.call_begins.specs.Begins.{AreLedgersOf}
+use Rattle.call_begins.proofs.Begins.{within}
+use Rattle.call_begins.proofs.Ledgers.{one_more_shown}
+use Rattle.call_begins.proofs.beginning.ledgers_of.Goals as goal
 
 pub pasts-preserved : goal.pasts-preserved
 pasts-preserved c =

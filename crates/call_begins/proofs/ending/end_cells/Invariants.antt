@@ -1,5 +1,5 @@
 use Rattle.std.specs.Vec.{vec_len}
-use Rattle.world_lives.proofs.ending.end_cells.Given as goal
+use Rattle.call_begins.proofs.ending.end_cells.Given as goal
 
 -- the cells are let go of from the last on
 abbrev pub invariant-cells : goal.invariant-cells

@@ -2,9 +2,9 @@ use Rattle.std.proofs.Common.{◌≡◌, ◌<◌, ◌∙◌, ◌++◌, ◌∷◌
 use Rattle.std.proofs.lemmas.Option.{slice_get-get_or}
 use Rattle.open_logs.proofs.Pushed.{one_longer, on_ok}
 use Rattle.part_steps.specs.declared.state.PartState.{PartState}
-use Rattle.world_lives.specs.Begins.{AllBegun}
-use Rattle.world_lives.proofs.Begins.{within, one_more_begun}
-use Rattle.world_lives.proofs.beginning.cells_of.Goals as goal
+use Rattle.call_begins.specs.Begins.{AllBegun}
+use Rattle.call_begins.proofs.Begins.{within, one_more_begun}
+use Rattle.call_begins.proofs.beginning.cells_of.Goals as goal
 
 pub states-preserved : goal.states-preserved
 states-preserved g c =

@@ -1,6 +1,6 @@
 use Rattle.std.specs.Prelude.{◌≡◌, ◌++◌, length}
-use Rattle.world_lives.specs.Begins.{AllBegun}
-use Rattle.world_lives.proofs.beginning.cells_of.Given as goal
+use Rattle.call_begins.specs.Begins.{AllBegun}
+use Rattle.call_begins.proofs.beginning.cells_of.Given as goal
 
 -- the cells of the partitions so far, and which states are left
 abbrev pub invariant-states : goal.invariant-states

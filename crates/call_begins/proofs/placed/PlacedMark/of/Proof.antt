@@ -16,11 +16,11 @@ use denote.Shadow.{pure_i}
 use denote.Steps.{nothing, heard}
 use denote.Triple.Walked.{says, ends_at}
 use Rattle.many_logs.specs.Placing.{Commit}
-use Rattle.world_lives.specs.declared.placed.PlacedMark.{PlacedMark}
-use Rattle.world_lives.specs.contracts.placed.PlacedMark.{the_row as R}
-use Rattle.world_lives.specs.contracts.placed.PlacedMark.of as f
-use Rattle.world_lives.proofs.placed.PlacedMark.of.Statement.{statement}
-use Rattle.world_lives.proofs.placed.PlacedMark.of.Code as code
+use Rattle.call_begins.specs.declared.placed.PlacedMark.{PlacedMark}
+use Rattle.call_begins.specs.contracts.placed.PlacedMark.{the_row as R}
+use Rattle.call_begins.specs.contracts.placed.PlacedMark.of as f
+use Rattle.call_begins.proofs.placed.PlacedMark.of.Statement.{statement}
+use Rattle.call_begins.proofs.placed.PlacedMark.of.Code as code
 
 -- as the machine has it: a struct with the marker, which has no field
 abbrev stored : Val

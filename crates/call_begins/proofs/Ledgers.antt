@@ -16,8 +16,8 @@ use Rattle.part_steps.specs.States.{parts_in, state_of}
 use Rattle.part_steps.specs.declared.state.PartState.{PartState}
 use Rattle.state_ledgers.proofs.LedgerFitsStore.{fits_first}
 use Rattle.state_ledgers.specs.Ledger.{IsLedgerOf, made_by}
-use Rattle.world_lives.specs.Begins.{AreLedgersOf}
-use Rattle.world_lives.proofs.Begins.{state_at}
+use Rattle.call_begins.specs.Begins.{AreLedgersOf}
+use Rattle.call_begins.proofs.Begins.{state_at}
 
 pub ledgers_fit : (rules : Rules) (states : List PartState) (pasts : List (List ℕ)) (list : List Ledger) → rules.begin ≡ parts_in states → states_after rules.flows rules.count fresh rules.recovered ≡ Some rules.begin → AreNumbered fresh rules.recovered
     → length list ≡ rules.count → length pasts ≡ rules.count → ((p : ℕ) (past : List ℕ) → slice_get pasts p ≡ Some past → past ≡ incarnations_in (of_partition p rules.recovered)) → AreLedgersOf rules.count states pasts list

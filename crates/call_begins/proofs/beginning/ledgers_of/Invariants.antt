@@ -1,6 +1,6 @@
 use Rattle.std.specs.Prelude.{◌≡◌, ◌++◌, length}
-use Rattle.world_lives.specs.Begins.{AreLedgersOf}
-use Rattle.world_lives.proofs.beginning.ledgers_of.Given as goal
+use Rattle.call_begins.specs.Begins.{AreLedgersOf}
+use Rattle.call_begins.proofs.beginning.ledgers_of.Given as goal
 
 -- the ledgers of the partitions so far, and which pasts are left
 abbrev pub invariant-pasts : goal.invariant-pasts

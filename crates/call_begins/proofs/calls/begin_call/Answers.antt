@@ -1,0 +1,53 @@
+use Rattle.std.proofs.Common.{◌≡◌, ◌<◌, ◌∙◌, ℕ, List, [], Some, None, sym, ap, subst, slice_get}
+use Rattle.std.specs.Prelude.{IfOk}
+use Rattle.commit_gate.specs.declared.ledger.Ledger.{Ledger}
+use Rattle.dura_value.specs.Items.{Floor}
+use Rattle.gated_store.specs.Kept.{LedgerFits}
+use Rattle.many_rules.proofs.FirstLedgers.{streams_known}
+use Rattle.many_rules.specs.Ledgers.{ledgers, readers}
+use Rattle.many_rules.specs.Rules.{Rules}
+use Rattle.part_steps.specs.declared.state.PartState.{PartState}
+use Rattle.call_begins.specs.Begins.{AllBegun, AreLedgersOf, BeginsWith}
+use Rattle.call_begins.proofs.Going.{begins_with}
+use Rattle.call_begins.proofs.Ledgers.{ledgers_fit, none_given_up}
+use Rattle.call_begins.proofs.calls.begin_call.Goals as goal
+
+pub begin-requires-clause-fits : goal.begin-requires-clause-fits
+begin-requires-clause-fits g c =
+    let rules = g.N.Named.rules in
+    let begun = c.args.begun in
+    let list = c.in-Ok.ledgers.items in
+    let e = c.in-Ok.ensures in
+    let same = c.requires.rules in
+    let count : rules.count ≡ c.args.count = ap (λ (r : Rules). r.count) same in
+    subst (λ (n : ℕ). (p : ℕ) (ledger : Ledger) → slice_get list p ≡ Some ledger → LedgerFits (ledgers rules) (readers rules) n p [] None ledger) g.N.Named.counts
+    (ledgers_fit rules begun.states.items begun.pasts.items list (ap (λ (r : Rules). r.begin) same) c.requires.goes.made c.requires.goes.numbered (e.many ∙ sym count) (c.requires.can.pasts ∙ sym count) c.requires.made.past
+    (subst (λ (n : ℕ). AreLedgersOf n begun.states.items begun.pasts.items list) (sym count) (subst (λ (s : List PartState). AreLedgersOf c.args.count s begun.pasts.items list) c.deref.ensures.value e.show)))
+
+pub begin-requires-clause-first : goal.begin-requires-clause-first
+begin-requires-clause-first g c = streams_known g.N.Named.rules c.requires.goes.made c.requires.goes.numbered c.requires.goes.below
+
+pub call_over-requires-clause-untouched : goal.call_over-requires-clause-untouched
+call_over-requires-clause-untouched g c =
+    let begun = c.args.begun in
+    let e = c.in-Ok-begin.ensures in
+    let l = c.in-Ok in
+    record {
+      trail = e.trail;
+      told = e.told;
+      rest = λ p below. e.rest p (subst (λ (n : ℕ). p < n) g.N.Named.counts below);
+      floors = λ p. ap (λ (f : ℕ → List Floor). f p) e.floors ∙ none_given_up c.args.count c.deref.result.now begun.pasts.items l.ledgers.items l.ensures.many c.requires.can.pasts l.ensures.show p;
+      going = e.going;
+      whole = e.whole;
+    }
+
+pub call_over-requires-clause-begins : goal.call_over-requires-clause-begins
+call_over-requires-clause-begins g c =
+    let rules = g.N.Named.rules in
+    let begun = c.args.begun in
+    subst (λ (l : List ℕ). BeginsWith rules begun.states.items l) (sym c.deref-in-Ok-begin.ensures.value)
+    (subst (λ (r : Rules). BeginsWith r begun.states.items begun.incarnations.items) (sym c.requires.rules)
+    (begins_with rules.flows c.args.count begun rules.recovered rules.requests rules.serves c.requires.some c.requires.few c.requires.can))
+
+pub returns-in-Ok-begin-clause-begun : goal.returns-in-Ok-begin-clause-begun
+returns-in-Ok-begin-clause-begun g c = subst (λ (l : List ℕ). IfOk c.call_over.result (λ call. AllBegun l call.cells.items)) c.deref-in-Ok-begin.ensures.value c.call_over.ensures.begun
