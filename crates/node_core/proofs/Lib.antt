@@ -1,0 +1,4 @@
+mod Owners
+pub mod Steps
+mod Turned
+mod Waits

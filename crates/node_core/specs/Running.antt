@@ -1,0 +1,31 @@
+-- What holds of the store and the cells of a call between its steps.
+use Rattle.std.specs.Prelude.{◌≡◌, ◌≤◌, ◌<◌, false, List, length}
+use Rattle.cell_frames.specs.Begun.{HasBegun}
+use Rattle.cell_frames.specs.Joined.{view_of}
+use Rattle.gated_store.specs.Kept.{IsKept}
+use Rattle.gated_store.specs.declared.local.Gated as gated_types
+use Rattle.gated_store.specs.declared.store.GatedStore.{GatedStore}
+use Rattle.hub_store.specs.Origin.{Origin}
+use Rattle.hub_store.specs.declared.start.Start as starts
+use Rattle.many_rules.specs.Ledgers.{ledgers, readers}
+use Rattle.many_rules.specs.Makes.{Makes}
+use Rattle.many_rules.specs.Rules.{Rules}
+use Rattle.site_model.specs.declared.site.Site as sites
+use Rattle.spec_cell.specs.Views.{CellView}
+use Rattle.world_steps.specs.Cells.{AllJoined}
+
+-- what was committed may be, and the gates of frames compare, whatever came
+abbrev pub Keeps : {V L : Type 0} {G : sites.Ghosts V} {K : starts.Ghosts (gated_types.Gated L)} → Origin → Rules → GatedStore V L G K → Type 0
+Keeps o rules store = IsKept o.count (ledgers rules) (readers rules) (Makes rules) store
+
+-- The call goes on: it began by its rules, there are 1 to 32 partitions and a cell for each, the store is kept, no device call failed, no
+-- line was cut, and each cell is joined to the store.
+pub record IsRunning {V L : Type 0} {G : sites.Ghosts V} {K : starts.Ghosts (gated_types.Gated L)} (o : Origin) (rules : Rules) (store : GatedStore V L G K) (cells : List CellView) : Type 0 where
+  pub begun : HasBegun o rules
+  pub some : 0 < rules.count
+  pub few : rules.count ≤ 32
+  pub many : length cells ≡ rules.count
+  pub kept : Keeps o rules store
+  pub still : store.logs.halted ≡ false
+  pub whole : store.logs.cut ≡ false
+  pub joined : AllJoined rules (view_of store) cells
