@@ -1,3 +1,5 @@
 pub mod Begins
+pub mod Further
 pub mod Going
 pub mod Ledgers
+pub mod Says

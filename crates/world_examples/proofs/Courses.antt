@@ -2,6 +2,7 @@
 use Rattle.std.proofs.Common.{◌≡◌, ◌≢◌, ◌<◌, ◌∷◌, ℕ, Bool, false, true, List, [], refl, sym, ap, arith, length, length-append, append-nil, inl, inr}
 use Rattle.std.specs.List.{Contains}
 use Rattle.std.proofs.lemmas.List.Elements.{Contains-push_cases}
+use Rattle.call_begins.specs.Says.{AnyFollows, SaysAll}
 use Rattle.cell_steps.specs.declared.mode.Mode.{Mode}
 use Rattle.commit_gate.specs.Ledgers.{log_length}
 use Rattle.commit_gate.specs.declared.unmet.Unmet.{Unmet}
@@ -24,7 +25,7 @@ use Rattle.world_examples.proofs.NewWorlds.{store_with, world_with, well_with, n
 use Rattle.world_examples.specs.Courses.{Course, Fact, Holds, LacksJust, alone, begun, beside, still, was_over, had_settled, had_said, had_sent, had_failed, knew_nothing, unasked, told_settled, said_more}
 use Rattle.world_laws.specs.Lives.{IsWell}
 use Rattle.world_lives.proofs.Passed.{lives_pass}
-use Rattle.world_lives.specs.Lives.{AnyFollows, Lives, SaysAll, WasLived}
+use Rattle.world_lives.specs.Lives.{Lives, WasLived}
 use Rattle.world_lives.specs.declared.deed.Deed.{Deed}
 use Rattle.world_lives.specs.declared.deed.Deed.TheVariants as deeds
 

@@ -1,6 +1,7 @@
 -- Lives of one partition, and what is asked of each, fact by fact.
 use Rattle.std.specs.Prelude.{◌≡◌, ◌≢◌, ℕ, true, false, List, [], ◌∷◌, None}
 use Rattle.std.specs.List.{Contains}
+use Rattle.call_begins.specs.Says.{SaysAll}
 use Rattle.cell_steps.specs.declared.mode.Mode.{Mode}
 use Rattle.cell_steps.specs.declared.round.Round.TheVariants as rounds
 use Rattle.commit_gate.specs.Ledgers.{log_length}
@@ -23,7 +24,7 @@ use Rattle.world_core.specs.declared.answer.Answer.TheVariants as answers
 use Rattle.world_core.specs.declared.event.Event.TheVariants as events
 use Rattle.world_examples.specs.Worlds.{empty}
 use Rattle.world_laws.specs.Lives.{IsNewLife, IsWell, IsCurrent}
-use Rattle.world_lives.specs.Lives.{Lives, SaysAll}
+use Rattle.world_lives.specs.Lives.{Lives}
 use Rattle.world_lives.specs.declared.deed.Deed.{Deed}
 use Rattle.world_lives.specs.declared.deed.Deed.TheVariants as deeds
 

@@ -1,5 +1,4 @@
 pub mod Begins
-pub mod Further
 pub mod Going
 pub mod NewLives
 pub mod Passed

@@ -1,26 +1,25 @@
 -- What deeds make of the world, one after another, and what a life leaves.
 use Rattle.std.specs.Prelude.{◌≡◌, ◌<◌, ◌≤◌, ℕ, false, List, [], ◌∷◌, ◌++◌, length, Result, Ok, Err}
 use Rattle.std.specs.List.{Contains}
+use Rattle.call_begins.specs.Says.{SaysAll}
 use Rattle.cell_steps.specs.declared.mode.Mode.{Mode}
 use Rattle.commit_gate.specs.Ledgers.{log_length}
 use Rattle.commit_gate.specs.declared.unmet.Unmet.{Unmet}
-use Rattle.dura_value.specs.Items.{Entry}
 use Rattle.flow_syntax.specs.Syntax.{Flows}
 use Rattle.gated_store.specs.Causal.{Causal}
 use Rattle.gated_store.specs.Follows.{ledgers_at}
-use Rattle.hub_store.specs.Moments.{SaidSoFar}
 use Rattle.hub_store.specs.Origin.{Origin}
 use Rattle.hub_store.specs.Trail.{Settled, Said, settled_at}
 use Rattle.many_logs.specs.Placing.{Commit}
 use Rattle.many_logs.specs.Stands.{AreKept}
 use Rattle.many_rules.specs.Leaves.{StandsOn}
 use Rattle.many_rules.specs.Ledgers.{ledgers}
-use Rattle.many_rules.specs.Rules.{Rules, Answers}
+use Rattle.many_rules.specs.Rules.{Rules}
 use Rattle.open_logs.specs.Begun.{MadeBy, AreTheirs}
 use Rattle.open_logs.specs.Moments.{OpensOnly}
 use Rattle.open_logs.specs.Picks.{origin_of}
 use Rattle.open_logs.specs.declared.begun.Begun.{Begun}
-use Rattle.site_model.specs.History.{Step, IsImage, back_to, content_of, tape}
+use Rattle.site_model.specs.History.{Step, IsImage, back_to, content_of}
 use Rattle.site_model.specs.Moments.{Always}
 use Rattle.world_core.specs.Happens.{Happens}
 use Rattle.world_core.specs.World.{WorldView}
@@ -47,17 +46,6 @@ pub data Lives (rules : Rules) (mode : Mode) (nodes : ℕ) (first : WorldView) :
   nothing : Lives rules mode nodes first [] [] first
   one_more : {done : List Deed} {came : List Answer} {old : WorldView} → Lives rules mode nodes first done came old → (deed : Deed) (answer : Answer) (new : WorldView) → Does rules mode nodes old deed answer new → IsWell rules new
       → Lives rules mode nodes first (done ++ deed ∷ []) (came ++ answer ∷ []) new
-
--- whatever frames follow
-abbrev pub AnyFollows : List Settled → List Said → ℕ → List Entry → Type 0
-AnyFollows trail told partition going = Unit {0}
-
--- The tape goes on from one history to another by a line for each of these requests, one after another, which answers it as what was
--- settled by then has it.
-pub record SaysAll (rules : Rules) (before now : List Step) (trail : List Settled) (told : List Said) : Type 0 where
-  pub lines : List ℕ
-  pub said : SaidSoFar AnyFollows (Answers rules) trail told lines
-  pub spoken : tape now ≡ tape before ++ lines
 
 -- By these rules the deeds were done from a new world on, one that goes on and in which nothing was settled; they came to these answers, by
 -- which no gate refused; and this was settled. Each entry of it stands behind all that it depends on. Where the site tells, and the life

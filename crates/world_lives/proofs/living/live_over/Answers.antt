@@ -1,4 +1,7 @@
 use Rattle.std.proofs.Common.{◌∙◌, ℕ, List, [], sym, ap, subst}
+use Rattle.call_begins.proofs.Further.{run_further, nothing_before}
+use Rattle.call_begins.proofs.Says.{all_said}
+use Rattle.call_begins.specs.Says.{SaysAll}
 use Rattle.cell_steps.specs.declared.mode.Mode.{Mode}
 use Rattle.commit_gate.specs.Ledgers.{log_length}
 use Rattle.gated_store.specs.Causal.{Causal}
@@ -10,11 +13,10 @@ use Rattle.world_steps.specs.Cells.{AllKnown}
 use Rattle.world_core.specs.World.{world}
 use Rattle.world_laws.proofs.Grounds.{well_known}
 use Rattle.site_model.specs.Moments.{Always}
-use Rattle.world_lives.specs.Lives.{Lives, LeavesRuns, SaysAll}
-use Rattle.world_lives.proofs.Further.{run_further, nothing_before}
+use Rattle.world_lives.specs.Lives.{Lives, LeavesRuns}
 use Rattle.world_lives.proofs.Going.{all_answered}
 use Rattle.world_lives.proofs.Passed.{lives_pass}
-use Rattle.world_lives.proofs.Saying.{lives_well, all_said}
+use Rattle.world_lives.proofs.Saying.{lives_well}
 use Rattle.world_lives.proofs.living.live_over.Goals as goal
 
 pub returns-clause-answers : goal.returns-clause-answers

@@ -1,0 +1,3 @@
+mod AtRest
+mod Heard
+mod Opens

@@ -1,0 +1,55 @@
+-- A call begins to serve clients.
+use Rattle.std.proofs.Common.{◌≡◌, ◌≤◌, ◌<◌, ◌∙◌, ℕ, List, [], Option, Some, None, Result, Ok, Err, refl, sym, ap, subst, length}
+use Rattle.std.specs.Prelude.{IfSome}
+use Rattle.call_begins.specs.Begins.{IsUntouched}
+use Rattle.cell_frames.specs.Begun.{HasBegun}
+use Rattle.cell_frames.specs.Joined.{view_of}
+use Rattle.client_port.specs.Ports.{Queue, queues_of}
+use Rattle.engine_rounds.specs.Served.{came_of, refusal_in}
+use Rattle.engine_rounds.specs.declared.driving.End.{End}
+use Rattle.engine_rounds.specs.declared.serving.Came.{Came}
+use Rattle.engine_rounds.specs.declared.serving.Came.TheVariants as cames
+use Rattle.flow_syntax.specs.Syntax.{Flows}
+use Rattle.gated_store.specs.declared.local.Gated as gated_types
+use Rattle.gated_store.specs.declared.store.GatedStore.{GatedStore}
+use Rattle.hub_store.specs.Origin.{Origin}
+use Rattle.hub_store.specs.declared.start.Start as starts
+use Rattle.many_rules.specs.Rules.{Rules}
+use Rattle.node_core.specs.Running.{Keeps}
+use Rattle.node_core.specs.declared.halt.Halt.{Halt}
+use Rattle.open_logs.specs.Spent.{WhyUnopened}
+use Rattle.open_logs.specs.declared.error.OpenError.{OpenError}
+use Rattle.open_logs.specs.declared.error.OpenError.TheVariants as refusals
+use Rattle.recover_core.specs.declared.error.RecoverError.TheVariants as errors
+use Rattle.round_steps.proofs.Queues.{said_first}
+use Rattle.round_steps.specs.Serving.{IsServing}
+use Rattle.site_model.specs.declared.site.Site as sites
+use Rattle.spec_cell.specs.Views.{CellView}
+use Rattle.world_steps.specs.Cells.{AllJoined}
+
+-- nothing was settled or said, and the port is new
+pub first_serves : {V L : Type 0} {G : sites.Ghosts V} {K : starts.Ghosts (gated_types.Gated L)} (o : Origin) (rules : Rules) (store : GatedStore V L G K) (cells : List CellView) (queues : List Queue) → HasBegun o rules → 0 < rules.count → rules.count ≤ 32 → length cells ≡ rules.count
+    → Keeps o rules store → IsUntouched rules.count store → AllJoined rules (view_of store) cells → queues ≡ queues_of rules.requests → IsServing o rules store cells queues
+first_serves o rules store cells queues begun some few many kept untouched joined port = record {
+  running = record { begun = begun; some = some; few = few; many = many; kept = kept; still = untouched.going; whole = untouched.whole; joined = joined };
+  said = said_first rules.requests _ queues untouched.told port;
+}
+
+-- where memory ran out nothing is said of why
+pub why_memory : (flows : Flows) (count digest : ℕ) (files : ℕ → List ℕ) (refused : Option OpenError) → IfSome refused (λ e. e ≡ refusals.Refused errors.Memory) → IfSome refused (WhyUnopened flows count digest files)
+why_memory flows count digest files None is = tt
+why_memory flows count digest files (Some error) is = subst (WhyUnopened flows count digest files) (sym is) tt
+
+-- ---- what rounds came to
+
+pub went_on : (rounds : Result End Halt) → refusal_in (came_of rounds) ≡ None
+went_on (Ok end) = refl
+went_on (Err halt) = refl
+
+pub ended_so : (rounds : Result End Halt) (end : End) → came_of rounds ≡ cames.Ended end → rounds ≡ Ok end
+ended_so (Ok other) end is = ap Ok (cc is)
+ended_so (Err halt) end is = absurd (cc is)
+
+pub halted_so : (rounds : Result End Halt) (halt : Halt) → came_of rounds ≡ cames.Halted halt → rounds ≡ Err halt
+halted_so (Ok end) halt is = absurd (cc is)
+halted_so (Err other) halt is = ap Err (cc is)

@@ -1,0 +1,6 @@
+use Rattle.node_core.specs.Running.{IsRunning}
+use Rattle.engine_rounds.proofs.driving.trim_all.Given as goal
+
+-- the call goes on
+abbrev pub invariant-parts : goal.invariant-parts
+invariant-parts g l = IsRunning g.M.Picked.origin g.M.Picked.rules l.store l.cells.items

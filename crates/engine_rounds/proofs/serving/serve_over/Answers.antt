@@ -1,0 +1,81 @@
+use Rattle.std.proofs.Common.{◌≡◌, ◌≤◌, ◌∙◌, ℕ, List, Ok, Err, IfErr, IfOk, OnOk, refl, sym, ap, subst, arith}
+use Rattle.call_begins.proofs.Further.{run_further, nothing_before}
+use Rattle.call_begins.proofs.Says.{all_said}
+use Rattle.call_begins.specs.Says.{SaysAll}
+use Rattle.commit_gate.specs.Ledgers.{log_length}
+use Rattle.engine_rounds.proofs.Opens.{ended_so, halted_so, went_on}
+use Rattle.engine_rounds.specs.Ends.{EndsAs}
+use Rattle.engine_rounds.specs.Served.{LeavesRuns, came_of, refusal_in}
+use Rattle.engine_rounds.specs.declared.serving.Came.{Came}
+use Rattle.engine_rounds.specs.declared.serving.Came.TheVariants as cames
+use Rattle.gated_store.specs.Causal.{Causal}
+use Rattle.gated_store.specs.Follows.{ledgers_at}
+use Rattle.hub_store.specs.Changes.{trail_in, told_in}
+use Rattle.hub_store.specs.Trail.{Settled, settled_at}
+use Rattle.many_rules.specs.Ledgers.{ledgers}
+use Rattle.node_core.specs.Halts.{IsPast, RisesFor}
+use Rattle.node_core.specs.declared.halt.Halt.TheVariants as halts
+use Rattle.site_model.specs.Moments.{Always}
+use Rattle.engine_rounds.proofs.serving.serve_over.Goals as goal
+
+pub returns-clause-went : goal.returns-clause-went
+returns-clause-went g c = ap refusal_in c.came_of.ensures ∙ went_on c.drive-rounds.result
+
+pub returns-clause-crash : goal.returns-clause-crash
+returns-clause-crash g c = λ tells digest begins.
+    let rules = g.N.Named.rules in
+    let o = g.N.Named.origin in
+    let logs = c.drive-rounds.new.store.logs in
+    let e = c.end_call-site.ensures in
+    let heard = c.drive-rounds.ensures.heard c.requires.latest in
+    subst (λ site. LeavesRuns rules (g.C.Clock.latest c.drive-rounds.new.clock) digest o (g.V.Site.history site) c.end_call-site.result.trail) (sym e.site)
+    (subst (λ (t : List Settled). LeavesRuns rules (g.C.Clock.latest c.drive-rounds.new.clock) digest o (g.V.Site.history logs.site) t) (sym e.trail)
+    (λ moment low high files image. (logs.latest, (heard, e.crash digest (subst g.V.Site.tells e.site tells) begins c.requires.begun.numbered moment low high files image))))
+
+pub returns-clause-further : goal.returns-clause-further
+returns-clause-further g c = λ tells.
+    let e = c.end_call-site.ensures in
+    subst (λ site. Always (λ moment. Unit {0}) g.N.Named.origin.steps (g.V.Site.history site)) (sym e.site) (run_further (c.drive-rounds.ensures.kept.sound.told (subst g.V.Site.tells e.site tells)).runs)
+
+pub returns-clause-unsettled : goal.returns-clause-unsettled
+returns-clause-unsettled g c = λ tells moment low.
+    let e = c.end_call-site.ensures in
+    ap (settled_at moment) e.trail ∙ nothing_before (c.drive-rounds.ensures.kept.sound.told (subst g.V.Site.tells e.site tells)).runs moment low
+
+pub returns-clause-on : goal.returns-clause-on
+returns-clause-on g c =
+    let rules = g.N.Named.rules in
+    let o = g.N.Named.origin in
+    let logs = c.drive-rounds.new.store.logs in
+    let e = c.end_call-site.ensures in
+    let h = c.drive-rounds.ensures in
+    record {
+      told = told_in logs;
+      queues = c.drive-rounds.new.course.port;
+      port_is = ?;
+      says = λ tells apart.
+          let whole = h.whole (λ is. apart (c.came_of.ensures ∙ ap came_of is)) in
+          let said = all_said rules o (g.V.Site.history logs.site) (trail_in logs) (told_in logs) ((h.kept.sound.told (subst g.V.Site.tells e.site tells)).rests whole) in
+          subst (λ site. SaysAll rules o.steps (g.V.Site.history site) c.end_call-site.result.trail (told_in logs)) (sym e.site)
+          (subst (λ (t : List Settled). SaysAll rules o.steps (g.V.Site.history logs.site) t (told_in logs)) (sym e.trail) said);
+      ends = λ end came.
+          let is = ended_so c.drive-rounds.result end (sym c.came_of.ensures ∙ came) in
+          let serving = subst (λ r. OnOk r _) is h.serving in
+          let ends = subst (λ r. IfOk r (EndsAs rules c.args.pace.steps (trail_in logs) c.drive-rounds.new.course.port)) is h.ends in
+          (serving.said, subst (λ (t : List Settled). EndsAs rules c.args.pace.steps t c.drive-rounds.new.course.port end) (sym e.trail) ends);
+    }
+
+pub returns-clause-halts : goal.returns-clause-halts
+returns-clause-halts g c = λ halt came.
+    let is = halted_so c.drive-rounds.result halt (sym c.came_of.ensures ∙ came) in
+    let old = c.args.call.store.logs.site in
+    let new = c.drive-rounds.new.store.logs.site in
+    let rises = subst (λ r. IfErr r (RisesFor (g.V.Site.disk_faults old) (g.V.Site.say_faults old) (g.V.Site.disk_faults new) (g.V.Site.say_faults new))) is c.drive-rounds.ensures.rises in
+    subst (λ site. RisesFor (g.V.Site.disk_faults old) (g.V.Site.say_faults old) (g.V.Site.disk_faults site) (g.V.Site.say_faults site) halt) (sym c.end_call-site.ensures.site) rises
+
+pub returns-clause-clock_fault : goal.returns-clause-clock_fault
+returns-clause-clock_fault g c = λ came. c.drive-rounds.ensures.clock (halted_so c.drive-rounds.result halts.ClockFault (sym c.came_of.ensures ∙ came))
+
+pub returns-clause-past : goal.returns-clause-past
+returns-clause-past g c = λ halt came.
+    subst (λ r. IfErr r (IsPast c.args.call.store.logs.segment)) (halted_so c.drive-rounds.result halt (sym c.came_of.ensures ∙ came)) c.drive-rounds.ensures.past

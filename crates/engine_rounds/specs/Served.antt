@@ -1,0 +1,75 @@
+-- What a call that serves clients over many partitions leaves.
+use Rattle.std.specs.Prelude.{◌≡◌, ◌≢◌, ◌≤◌, ◌<◌, ℕ, true, List, [], length, Option, Some, None, Result, Ok, Err}
+use Rattle.call_begins.specs.Begins.{call_rules}
+use Rattle.call_begins.specs.Says.{SaysAll}
+use Rattle.client_port.specs.Ports.{Queue}
+use Rattle.commit_gate.specs.Ledgers.{log_length}
+use Rattle.engine_rounds.specs.Ends.{EndsAs}
+use Rattle.engine_rounds.specs.declared.driving.End.{End}
+use Rattle.engine_rounds.specs.declared.serving.Came.{Came}
+use Rattle.engine_rounds.specs.declared.serving.Came.TheVariants as cames
+use Rattle.flow_syntax.specs.Syntax.{Flows}
+use Rattle.gated_store.specs.Causal.{Causal}
+use Rattle.gated_store.specs.Follows.{ledgers_at}
+use Rattle.hub_store.specs.Origin.{Origin}
+use Rattle.hub_store.specs.Short.{IsShort}
+use Rattle.hub_store.specs.Trail.{Settled, Said, of_part, settled_at}
+use Rattle.many_logs.specs.Placing.{Commit}
+use Rattle.many_logs.specs.Stands.{AreKept}
+use Rattle.many_rules.specs.Leaves.{StandsOn}
+use Rattle.many_rules.specs.Ledgers.{ledgers}
+use Rattle.many_rules.specs.Rules.{Rules}
+use Rattle.node_core.specs.declared.halt.Halt.{Halt}
+use Rattle.node_core.specs.declared.halt.Halt.TheVariants as halts
+use Rattle.open_logs.specs.Begun.{MadeBy, AreTheirs}
+use Rattle.open_logs.specs.Moments.{OpensOnly}
+use Rattle.open_logs.specs.Picks.{origin_of}
+use Rattle.open_logs.specs.declared.begun.Begun.{Begun}
+use Rattle.open_logs.specs.declared.error.OpenError.{OpenError}
+use Rattle.request_reader.specs.Line.{Request}
+use Rattle.round_steps.specs.Serving.{HasSaid}
+use Rattle.site_model.specs.History.{Step, IsImage, back_to, content_of}
+use Rattle.site_model.specs.Moments.{Always}
+
+-- why the files were refused, if they were
+abbrev pub refusal_in : Came → Option OpenError
+refusal_in (cames.Refused error) = Some error
+refusal_in (cames.Halted halt) = None
+refusal_in (cames.Ended end) = None
+
+-- what rounds came to
+abbrev pub came_of : Result End Halt → Came
+came_of (Ok end) = cames.Ended end
+came_of (Err halt) = cames.Halted halt
+
+-- From the moment on at which a call begins, a crash leaves files that stand for a run by the rules, of no later stamp than this.
+abbrev pub LeavesRuns : Rules → (latest digest : ℕ) → Origin → (new : List Step) → List Settled → Type 0
+LeavesRuns rules latest digest o new trail = (moment : ℕ) → length o.steps ≤ moment → moment ≤ length new → (files : ℕ → List ℕ) → IsImage (back_to moment new) files
+    → (by : ℕ) × (by ≤ latest) × StandsOn rules by digest o (back_to moment new) (settled_at moment trail) files
+
+-- Unless saying failed, the tape goes on by one line for each of these requests, which answers it. And where rounds ended, that is what the port
+-- has said, and they ended for this cause.
+pub record SaysOn (rules : Rules) (most : ℕ) (tells : Type 0) (before now : List Step) (trail : List Settled) (came : Came) (port : Option (List Queue)) : Type 0 where
+  pub told : List Said
+  pub queues : List Queue
+  pub port_is : port ≡ Some queues
+  pub says : tells → came ≢ cames.Halted halts.SayFault → SaysAll rules before now trail told
+  pub ends : (end : End) → came ≡ cames.Ended end → HasSaid rules.requests told queues × EndsAs rules most trail queues end
+
+-- A call began with what was recovered, and served these requests. Each entry that was settled stands behind all that it depends on. Where the
+-- site tells, it began with what the files kept; a crash left what it could have left before, or files that keep that, as long as logs were
+-- opened, and nothing was settled; and from then on, up to the end, files that stand for a run that goes on from what the files kept, in
+-- whatever order that was accepted; and each log that was written ended below this length.
+pub record IsServed (flows : Flows) (count digest segment most : ℕ) (requests : List Request) (latest : ℕ) (tells : Type 0) (old new : List Step) (trail : List Settled) (came : Came) (port : Option (List Queue)) : Type 0 where
+  pub begun : Begun
+  pub run : List Commit
+  pub steps : List Step
+  pub made : MadeBy flows count begun run
+  pub causal : Causal (λ partition. ledgers (call_rules flows count begun run requests true) partition []) (λ settled partition. log_length (ledgers_at (ledgers (call_rules flows count begun run requests true)) settled partition)) trail
+  pub theirs : tells → AreTheirs count digest (λ file. content_of file old) run
+  pub opening : tells → OpensOnly flows count digest old steps
+  pub further : tells → Always (λ moment. Unit {0}) steps new
+  pub nothing : tells → (moment : ℕ) → moment < length steps → settled_at moment trail ≡ []
+  pub crash : tells → (kept : List Commit) → AreKept flows count digest (λ file. content_of file old) kept → LeavesRuns (call_rules flows count begun kept requests true) latest digest (origin_of count digest steps begun) new trail
+  pub short : tells → (partition : ℕ) → partition < count → IsShort segment (of_part partition trail) (content_of ((origin_of count digest steps begun).logs partition).file new)
+  pub on : SaysOn (call_rules flows count begun run requests true) most tells steps new trail came port

@@ -1,0 +1,63 @@
+-- How many labels there are, one item and one entry after another.
+use Rattle.std.proofs.Common.{◌≡◌, ◌<◌, ◌≤◌, ◌∙◌, ℕ, ◌+◌, List, [], ◌∷◌, ◌++◌, length, length-append, take, get_or, cond, Option, Some, None, sym, ap, arith}
+use Rattle.std.specs.Prelude.{is_some}
+use Rattle.std.proofs.lemmas.List.{map_more, take_all}
+use Rattle.dura_model.specs.Entries.{and_label, labels_of}
+use Rattle.dura_model.specs.Partition.{label_in}
+use Rattle.dura_model.specs.Steps.{Label}
+use Rattle.dura_value.specs.Items.{Item}
+use Rattle.hub_store.specs.Plain.{settled_of, trail_of}
+use Rattle.hub_store.specs.Trail.{Settled}
+use Rattle.hub_store.specs.declared.trail.Settled as rows
+use Rattle.log_items.specs.Plain.{item_of, items_of}
+use Rattle.log_items.specs.declared.items.Item.{Item as OwnItem}
+use Rattle.many_logs.specs.Labels.{labels_of_commits}
+use Rattle.many_rules.specs.Rules.{commits_of}
+use Rattle.round_steps.specs.Labels.{settled_labels}
+
+alone : (n : ℕ) → n ≡ 0 + n
+alone n = omega arith
+
+label_counts : (o : Option Label) (labels : List Label) → length (and_label o labels) ≡ cond (is_some o) 1 0 + length labels
+label_counts None labels = alone (length labels)
+label_counts (Some label) labels = omega arith
+
+labels_more : (xs ys : List Item) → length (labels_of (xs ++ ys)) ≡ length (labels_of xs) + length (labels_of ys)
+labels_more [] ys = alone (length (labels_of ys))
+labels_more (x ∷ xs) ys =
+    let all = label_counts (label_in x) (labels_of (xs ++ ys)) in
+    let some = label_counts (label_in x) (labels_of xs) in
+    let rest = labels_more xs ys in
+    omega (arith, all, some, rest)
+
+-- one item more
+pub next_item : (xs : List OwnItem) (i : ℕ) (x : OwnItem) → i < length xs → x ≡ get_or xs i x → length (labels_of (items_of (take (i + 1) xs))) ≡ length (labels_of (items_of (take i xs))) + cond (is_some (label_in (item_of x))) 1 0
+next_item xs i x lt at =
+    let longer : items_of (take (i + 1) xs) ≡ items_of (take i xs) ++ item_of x ∷ [] = map_more item_of xs i x lt ∙ ap (λ y. items_of (take i xs) ++ item_of y ∷ []) (sym at) in
+    let same = ap (λ (l : List Item). length (labels_of l)) longer in
+    let more = labels_more (items_of (take i xs)) (item_of x ∷ []) in
+    let one = label_counts (label_in (item_of x)) [] in
+    omega (arith, same, more, one)
+
+pub all_items : (xs : List OwnItem) (i : ℕ) → length xs ≤ i → length (labels_of (items_of (take i xs))) ≡ length (labels_of (items_of xs))
+all_items xs i end = ap (λ (l : List OwnItem). length (labels_of (items_of l))) (take_all i xs end)
+
+settled_more : (a b : List Settled) → settled_labels (a ++ b) ≡ settled_labels a + settled_labels b
+settled_more [] b = alone (settled_labels b)
+settled_more (s ∷ a) b =
+    let all = length-append (labels_of s.entry.items) (labels_of_commits (commits_of (a ++ b))) in
+    let some = length-append (labels_of s.entry.items) (labels_of_commits (commits_of a)) in
+    let rest = settled_more a b in
+    omega (arith, all, some, rest)
+
+-- one entry more
+pub next_entry : (xs : List rows.Settled) (i : ℕ) (x : rows.Settled) → i < length xs → x ≡ get_or xs i x → settled_labels (trail_of (take (i + 1) xs)) ≡ settled_labels (trail_of (take i xs)) + length (labels_of (items_of x.items))
+next_entry xs i x lt at =
+    let longer : trail_of (take (i + 1) xs) ≡ trail_of (take i xs) ++ settled_of x ∷ [] = map_more settled_of xs i x lt ∙ ap (λ y. trail_of (take i xs) ++ settled_of y ∷ []) (sym at) in
+    let same = ap settled_labels longer in
+    let more = settled_more (trail_of (take i xs)) (settled_of x ∷ []) in
+    let one = length-append (labels_of (items_of x.items)) [] in
+    omega (arith, same, more, one)
+
+pub all_entries : (xs : List rows.Settled) (i : ℕ) → length xs ≤ i → settled_labels (trail_of (take i xs)) ≡ settled_labels (trail_of xs)
+all_entries xs i end = ap (λ (l : List rows.Settled). settled_labels (trail_of l)) (take_all i xs end)

@@ -1,0 +1,4 @@
+mod Counts
+pub mod Goes
+mod Names
+pub mod Queues

@@ -1,0 +1,9 @@
+-- How many labels were settled.
+use Rattle.std.specs.Prelude.{ℕ, List, length}
+use Rattle.hub_store.specs.Trail.{Settled}
+use Rattle.many_logs.specs.Labels.{labels_of_commits}
+use Rattle.many_rules.specs.Rules.{commits_of}
+
+-- by all entries of the trail
+abbrev pub settled_labels : List Settled → ℕ
+settled_labels trail = length (labels_of_commits (commits_of trail))

@@ -1,0 +1,5 @@
+//! Trials.
+#![tactic(auto)]
+
+#[cfg(test)]
+mod trials;
