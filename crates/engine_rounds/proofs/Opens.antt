@@ -1,13 +1,13 @@
 -- A call begins to serve clients.
-use Rattle.std.proofs.Common.{◌≡◌, ◌≤◌, ◌<◌, ◌∙◌, ℕ, List, [], Option, Some, None, Result, Ok, Err, refl, sym, ap, subst, length}
-use Rattle.std.specs.Prelude.{IfSome}
+use Rattle.std.proofs.Common.{◌≡◌, ◌≤◌, ◌<◌, ℕ, List, Option, Some, None, Result, Ok, Err, refl, sym, ap, subst, length}
+use Rattle.core.specs.Result.{is_err}
+use Rattle.std.specs.Prelude.{IfSome, OnOk, false}
 use Rattle.call_begins.specs.Begins.{IsUntouched}
 use Rattle.cell_frames.specs.Begun.{HasBegun}
 use Rattle.cell_frames.specs.Joined.{view_of}
 use Rattle.client_port.specs.Ports.{Queue, queues_of}
 use Rattle.engine_rounds.specs.Served.{came_of, refusal_in}
 use Rattle.engine_rounds.specs.declared.driving.End.{End}
-use Rattle.engine_rounds.specs.declared.serving.Came.{Came}
 use Rattle.engine_rounds.specs.declared.serving.Came.TheVariants as cames
 use Rattle.flow_syntax.specs.Syntax.{Flows}
 use Rattle.gated_store.specs.declared.local.Gated as gated_types
@@ -53,3 +53,7 @@ ended_so (Err halt) end is = absurd (cc is)
 pub halted_so : (rounds : Result End Halt) (halt : Halt) → came_of rounds ≡ cames.Halted halt → rounds ≡ Err halt
 halted_so (Ok end) halt is = absurd (cc is)
 halted_so (Err other) halt is = ap Err (cc is)
+
+pub ok_holds : {A E : Type 0} (r : Result A E) (P : Type 0) → is_err r ≡ false → OnOk r P → P
+ok_holds (Ok a) P fine holds = holds
+ok_holds (Err e) P fine holds = absurd (cc fine)

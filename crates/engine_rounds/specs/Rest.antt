@@ -1,5 +1,5 @@
 -- Where nothing is possible any more.
-use Rattle.std.specs.Prelude.{◌≡◌, ℕ, true, is_some, List, length, Option, Some, None}
+use Rattle.std.specs.Prelude.{◌≡◌, ℕ, true, is_some, List, length, Some, None}
 use Rattle.std.specs.List.{All, slice_get}
 use Rattle.client_port.specs.Clients.{clients_of}
 use Rattle.client_port.specs.Ports.{Queue, due_of}
@@ -42,6 +42,9 @@ pub record AreStatesOfCells (rules : Rules) (cells : List CellView) (states : Li
 abbrev pub IsAwaitedAt : Rules → CellView → Id → (number : ℕ) → Type 0
 IsAwaitedAt rules c id number = (base : Partition) × IsBase rules.flows rules.count (rules.begin c.number) c base × IsAwaited base id number
 
--- and so was what comes next of each of these clients, where something does
+-- and so was what comes next of a client, where something does
+abbrev pub IsNextAwaitedAt : Rules → List CellView → List Queue → (name : List ℕ) → Type 0
+IsNextAwaitedAt rules cells queues name = (c : CellView) → slice_get cells (home rules.count (client name)) ≡ Some c → (r : Request) → due_of name queues ≡ Some r → IsAwaitedAt rules c (client name) r.number
+
 abbrev pub AreAwaitedAt : Rules → List CellView → List Queue → List (List ℕ) → Type 0
-AreAwaitedAt rules cells queues = All (λ name. (c : CellView) → slice_get cells (home rules.count (client name)) ≡ Some c → (r : Request) → due_of name queues ≡ Some r → IsAwaitedAt rules c (client name) r.number)
+AreAwaitedAt rules cells queues = All (IsNextAwaitedAt rules cells queues)

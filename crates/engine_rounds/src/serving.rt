@@ -199,6 +199,8 @@ fn serve_over<V: Site, N: Named, R: Reactions, C: Clock, A: Activities>(
         (content_of (N.origin.logs partition).file (V.history result.site)) }
     ensures on { SaysOn N.rules pace.steps (V.tells result.site) N.origin.steps
         (V.history result.site) result.trail result.came result.port }
+    ensures later { (V.disk_faults call.store.logs.site ≤ V.disk_faults result.site)
+        × (V.say_faults call.store.logs.site ≤ V.say_faults result.site) }
     ensures halts { (halt : HaltedFor) → result.came ≡ Came.Halted halt
         → RisesFor (V.disk_faults call.store.logs.site) (V.say_faults call.store.logs.site)
         (V.disk_faults result.site) (V.say_faults result.site) halt }
@@ -262,7 +264,8 @@ fn serve_named<V: Site, N: Named, R: Reactions, C: Clock, A: Activities>(
     ensures same { refusal_in result.came ≢ None → (result.site ≡ site) × (result.trail ≡ []) }
     ensures memory { IfSome (refusal_in result.came)
         (λ e. e ≡ OpenError.Refused RecoverError.Memory) }
-    ensures causal { Causal (λ partition. ledgers N.rules partition [])
+    ensures causal { refusal_in result.came ≡ None
+        → Causal (λ partition. ledgers N.rules partition [])
         (λ settled partition. log_length (ledgers_at (ledgers N.rules) settled partition))
         result.trail }
     ensures further { V.tells result.site → refusal_in result.came ≡ None
@@ -280,6 +283,8 @@ fn serve_named<V: Site, N: Named, R: Reactions, C: Clock, A: Activities>(
         (V.tells result.site) N.origin.steps (V.history result.site) result.trail result.came
         result.port }
     ensures latest { C.latest clock ≤ C.latest result.clock }
+    ensures later { (V.disk_faults site ≤ V.disk_faults result.site)
+        × (V.say_faults site ≤ V.say_faults result.site) }
     ensures halts { (halt : HaltedFor) → result.came ≡ Came.Halted halt
         → RisesFor (V.disk_faults site) (V.say_faults site)
         (V.disk_faults result.site) (V.say_faults result.site) halt }

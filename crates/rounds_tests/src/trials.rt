@@ -250,9 +250,7 @@ fn limited(rt: HostRuntime) {
         for mode in [Mode::None, Mode::Local, Mode::Global] {
             let mut pace = pace_of(mode, 1);
             pace.steps = 3;
-            let served = serve_case(
-                &rt, alloc, &CASES[0], partitions, 2, pace, PLAIN, "{}",
-            );
+            let served = serve_case(&rt, alloc, &CASES[0], partitions, 2, pace, PLAIN, "{}");
             let labels = match served.came {
                 Came::Ended(End::Long(labels)) => labels,
                 _ => 0,

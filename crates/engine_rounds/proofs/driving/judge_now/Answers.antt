@@ -1,7 +1,4 @@
-use Rattle.std.proofs.Common.{◌∙◌, ap}
-use Rattle.hub_store.specs.Changes.{told_in}
 use Rattle.node_core.proofs.Steps.{runs_same}
-use Rattle.round_steps.proofs.Goes.{still_serve}
 use Rattle.engine_rounds.proofs.driving.judge_now.Goals as goal
 
 pub judge_all-rewound-requires : goal.judge_all-rewound-requires

@@ -1,15 +1,19 @@
-use Rattle.std.proofs.Common.{rules, ◌≡◌, ◌≢◌, ◌≤◌, ◌<◌, false, length, Err, IfErr, IfOk, IfSome, OnOk, ℕ, ◌+◌, ◌-◌, ◌*◌, ◌/◌, ◌%◌, Bool, true, nat_eq, nat_lt, List, [], ◌∷◌, ◌++◌, slice_index_or, slice_set, bit_and, bit_or, Fits, w8, w32, w64, Bor, MutBor}
+use Rattle.std.proofs.Common.{◌∙◌}
+use Rattle.std.proofs.Math.Nat.{le_of_eq}
 use Rattle.cell_frames.specs.Joined.{view_of}
-use Rattle.client_port.specs.Clients.{clients_of}
-use Rattle.engine_rounds.specs.Ends.{EndsAs}
-use Rattle.hub_store.specs.Changes.{trail_in}
-use Rattle.round_steps.specs.Serving.{GoesOn, IsServing}
-use Rattle.node_core.specs.Halts.{IsPast, RisesFor}
-use Rattle.node_core.specs.Running.{IsRunning, Keeps}
-use Rattle.site_model.specs.Calls.{HasRisen}
-use Rattle.world_steps.specs.Known.{AreMarksOf}
 use Rattle.engine_rounds.proofs.driving.trim_all.Goals as goal
 
--- src/driving.rt:55:5
 pub parts-preserved : goal.parts-preserved
-parts-preserved g c = ?
+parts-preserved g c =
+    let h = c.in_ok-trim_at.ensures in
+    let inv = c.parts.invariant in
+    record {
+      begun = inv.begun;
+      some = inv.some;
+      few = inv.few;
+      many = h.many ∙ inv.many;
+      kept = inv.kept;
+      still = inv.still;
+      whole = inv.whole;
+      joined = h.joined (view_of c.args.store.now) (λ read inside. le_of_eq (c.requires.marks.reads read inside)) inv.joined;
+    }

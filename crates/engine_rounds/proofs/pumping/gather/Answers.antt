@@ -1,15 +1,14 @@
-use Rattle.std.proofs.Common.{rules, ◌≡◌, ◌≢◌, ◌≤◌, ◌<◌, false, max, length, Some, Ok, Err, IfErr, OnOk, ℕ, ◌+◌, ◌-◌, ◌*◌, ◌/◌, ◌%◌, Bool, true, nat_eq, nat_lt, List, [], ◌∷◌, ◌++◌, slice_index_or, slice_set, bit_and, bit_or, Fits, w8, w32, w64, Bor, MutBor}
-use Rattle.cell_frames.specs.Joined.{StoreView, view_of}
-use Rattle.round_steps.specs.Serving.{GoesOn, IsServing}
-use Rattle.node_core.specs.Halts.{IsPast, RisesFor}
-use Rattle.client_port.specs.Clients.{clients_of}
-use Rattle.engine_rounds.specs.Rest.{IsAtRest}
-use Rattle.hub_store.specs.Changes.{told_in, trail_in}
-use Rattle.node_core.specs.Running.{IsRunning, Keeps}
-use Rattle.site_model.specs.Calls.{HasRisen}
+use Rattle.std.proofs.Common.{◌∙◌, OnOk, sym, subst}
+use Rattle.engine_rounds.proofs.Opens.{ok_holds}
+use Rattle.round_steps.proofs.Goes.{cells_serve}
 use Rattle.world_steps.specs.Cells.{AllJoined}
 use Rattle.engine_rounds.proofs.pumping.gather.Goals as goal
 
--- src/pumping.rt:152:1
 pub returns-in-Ok-clause-serving : goal.returns-in-Ok-clause-serving
-returns-in-Ok-clause-serving g c = ?
+returns-in-Ok-clause-serving g c =
+    let rules = g.M.Picked.rules in
+    let cells = c.run_all_tasks.new.cells.items in
+    let brought = c.bring_all.ensures in
+    let run = c.run_all_tasks.ensures in
+    cells_serve g.M.Picked.origin rules c.serve_all.new.store c.serve_all.new.cells.items cells c.serve_all.new.port c.in_ok-serve_all.ensures.serving (run.many ∙ brought.many)
+    (λ s all. subst (λ r. OnOk r (AllJoined rules s cells)) c.in-Ok.is (run.joined s (ok_holds c.bring_all.result (AllJoined rules s c.bring_all.new.cells.items) (sym c.if-is_err.ensures.value) (brought.joined s all))))

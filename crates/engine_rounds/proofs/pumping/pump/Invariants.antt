@@ -1,4 +1,4 @@
-use Rattle.std.specs.Prelude.{◌≡◌, ◌≤◌}
+use Rattle.std.specs.Prelude.{◌≤◌}
 use Rattle.round_steps.specs.Serving.{GoesOn, IsServing}
 use Rattle.engine_rounds.proofs.pumping.pump.Given as goal
 

@@ -1,28 +1,25 @@
-use Rattle.std.proofs.Common.{rules, ◌≡◌, ◌<◌, ◌≤◌, true, length, map, IfOk, Some, ℕ, ◌+◌, ◌-◌, ◌*◌, ◌/◌, ◌%◌, Bool, false, nat_eq, nat_lt, List, [], ◌∷◌, ◌++◌, slice_index_or, slice_set, bit_and, bit_or, Fits, w8, w32, w64, Bor, MutBor}
-use Rattle.std.specs.List.{All, slice_get}
-use Rattle.cell_frames.specs.Joined.{StoreView, view_of}
-use Rattle.client_port.specs.Clients.{clients_of}
-use Rattle.client_port.specs.Ports.{due_of}
-use Rattle.dura_value.specs.Ids.{client as client_id}
-use Rattle.dura_value.specs.Ids.{home}
-use Rattle.dura_value.specs.Views.{id_of}
-use Rattle.engine_rounds.specs.Rest.{AreStatesOfCells, IsAtRest, IsAwaited, IsAwaitedAt}
-use Rattle.hub_store.specs.Changes.{trail_in}
-use Rattle.node_core.specs.Running.{IsRunning}
-use Rattle.part_steps.specs.States.{AreStatesOfAll, parts_in, state_of}
-use Rattle.request_reader.specs.Line.{Request}
-use Rattle.rest_laws.specs.Rest.{AreAtRest}
-use Rattle.spec_cell.specs.Views.{CellView}
+use Rattle.std.proofs.Common.{◌∙◌, refl, sym}
+use Rattle.engine_rounds.proofs.AtRest.{all_at, all_next, all_none, all_whole, home_of_all}
+use Rattle.engine_rounds.specs.Rest.{IsNextAwaitedAt}
 use Rattle.engine_rounds.proofs.resting.are_awaited.Goals as goal
 
--- src/resting.rt:124:5
 pub clients-init : goal.clients-init
-clients-init g c = ?
+clients-init g c = all_none (IsNextAwaitedAt g.M.Picked.rules c.args.cells.now c.args.port.now)
 
--- src/resting.rt:124:5
 pub clients-preserved : goal.clients-preserved
-clients-preserved g c = ?
+clients-preserved g c =
+    all_next (IsNextAwaitedAt g.M.Picked.rules c.args.cells.now c.args.port.now) c.args.clients.now c.clients.client-index c.client-item.result c.clients-test.true c.client-item.is c.clients.invariant
+    (λ one there. (c.in_ok-is_next_awaited.ensures one there).0 c.if-not-branch.false)
 
--- src/resting.rt:112:1
 pub returns : goal.returns
-returns g c = ?
+returns g c = (λ yes. all_whole (IsNextAwaitedAt g.M.Picked.rules c.args.cells.now c.args.port.now) c.args.clients.now c.clients.client-index c.clients-test.false c.clients.invariant, λ all. refl)
+
+pub returns-then-not-branch : goal.returns-then-not-branch
+returns-then-not-branch g c =
+    let rules = g.M.Picked.rules in
+    let cells = c.args.cells.now in
+    let it = home_of_all rules cells c.client-item.result c.requires.some c.requires.many in (
+      λ no. absurd (cc no),
+      λ all. sym c.if-not-branch.true ∙ (c.in_ok-is_next_awaited.ensures it.0 it.1).1
+          (all_at (IsNextAwaitedAt rules cells c.args.port.now) c.args.clients.now c.clients.client-index c.client-item.result c.clients-test.true c.client-item.is all it.0 it.1),
+    )

@@ -1,19 +1,8 @@
-use Rattle.std.proofs.Common.{◌≡◌, ◌<◌, ◌≤◌, true, length, map, IfOk, Some, ℕ, ◌+◌, ◌-◌, ◌*◌}
-use Rattle.std.specs.List.{All, slice_get}
-use Rattle.cell_frames.specs.Joined.{StoreView, view_of}
-use Rattle.client_port.specs.Clients.{clients_of}
-use Rattle.client_port.specs.Ports.{due_of}
-use Rattle.dura_value.specs.Ids.{client as client_id}
-use Rattle.dura_value.specs.Ids.{home}
-use Rattle.dura_value.specs.Views.{id_of}
-use Rattle.engine_rounds.specs.Rest.{AreStatesOfCells, IsAtRest, IsAwaited, IsAwaitedAt}
-use Rattle.hub_store.specs.Changes.{trail_in}
-use Rattle.node_core.specs.Running.{IsRunning}
-use Rattle.part_steps.specs.States.{AreStatesOfAll, parts_in, state_of}
-use Rattle.request_reader.specs.Line.{Request}
-use Rattle.rest_laws.specs.Rest.{AreAtRest}
-use Rattle.spec_cell.specs.Views.{CellView}
+use Rattle.std.proofs.Common.{take}
+use Rattle.std.specs.List.{All}
+use Rattle.engine_rounds.specs.Rest.{IsNextAwaitedAt}
 use Rattle.engine_rounds.proofs.resting.are_awaited.Given as goal
 
+-- what comes next of the clients so far is
 abbrev pub invariant-clients : goal.invariant-clients
-invariant-clients g l = ?
+invariant-clients g l = All (IsNextAwaitedAt g.M.Picked.rules l.cells l.port) (take l.client-index l.clients)

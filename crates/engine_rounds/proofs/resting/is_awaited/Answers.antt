@@ -1,20 +1,19 @@
-use Rattle.std.proofs.Common.{rules, ◌≡◌, ◌<◌, ◌≤◌, true, length, map, IfOk, Some, ℕ, ◌+◌, ◌-◌, ◌*◌, ◌/◌, ◌%◌, Bool, false, nat_eq, nat_lt, List, [], ◌∷◌, ◌++◌, slice_index_or, slice_set, bit_and, bit_or, Fits, w8, w32, w64, Bor, MutBor}
-use Rattle.std.specs.List.{All, slice_get}
-use Rattle.cell_frames.specs.Joined.{StoreView, view_of}
-use Rattle.client_port.specs.Clients.{clients_of}
-use Rattle.client_port.specs.Ports.{due_of}
-use Rattle.dura_value.specs.Ids.{client as client_id}
-use Rattle.dura_value.specs.Ids.{home}
-use Rattle.dura_value.specs.Views.{id_of}
-use Rattle.engine_rounds.specs.Rest.{AreStatesOfCells, IsAtRest, IsAwaited, IsAwaitedAt}
-use Rattle.hub_store.specs.Changes.{trail_in}
-use Rattle.node_core.specs.Running.{IsRunning}
-use Rattle.part_steps.specs.States.{AreStatesOfAll, parts_in, state_of}
-use Rattle.request_reader.specs.Line.{Request}
-use Rattle.rest_laws.specs.Rest.{AreAtRest}
+use Rattle.std.proofs.Common.{◌≡◌, ◌↔◌, true, IfOk, Some, slice_get, sym, subst}
+use Rattle.dura_value.specs.Ids.{client, home}
+use Rattle.engine_rounds.proofs.AtRest.{awaited_here}
+use Rattle.engine_rounds.specs.Rest.{IsAwaitedAt}
+use Rattle.part_steps.specs.States.{state_of}
 use Rattle.spec_cell.specs.Views.{CellView}
 use Rattle.engine_rounds.proofs.resting.is_awaited.Goals as goal
+use Rattle.engine_rounds.proofs.resting.is_awaited.Goals.{in-Some, in-None}
 
--- src/resting.rt:70:1
 pub returns : goal.returns
-returns g c = ?
+returns g c =
+    let rules = g.M.Picked.rules in
+    let cells = c.args.cells.now in
+    let name = c.args.client.now in
+    elim c.match-base.branch [
+      | in-Some w ↦ subst (λ r. IfOk r (λ yes. (one : CellView) → slice_get cells (home rules.count (client name)) ≡ Some one → (yes ≡ true) ↔ IsAwaitedAt rules one (client name) c.args.number)) (sym w.awaited-is)
+          (awaited_here rules cells c.home-part.result name c.in_ok-copy_name.field-0 c.index-cells-part.result (state_of w.in-Some.base.now) c.args.number w.is_awaited_in.result c.requires.many c.home-part.ensures c.in_ok-copy_name.ensures c.index-cells-part.is w.in-Some.ensures.base w.is_awaited_in.ensures)
+      | in-None w ↦ subst (λ r. IfOk r (λ yes. (one : CellView) → slice_get cells (home rules.count (client name)) ≡ Some one → (yes ≡ true) ↔ IsAwaitedAt rules one (client name) c.args.number)) (sym w.awaited-is) tt
+    ]

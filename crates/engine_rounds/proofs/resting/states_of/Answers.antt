@@ -1,28 +1,27 @@
-use Rattle.std.proofs.Common.{rules, ◌≡◌, ◌<◌, ◌≤◌, true, length, map, IfOk, Some, ℕ, ◌+◌, ◌-◌, ◌*◌, ◌/◌, ◌%◌, Bool, false, nat_eq, nat_lt, List, [], ◌∷◌, ◌++◌, slice_index_or, slice_set, bit_and, bit_or, Fits, w8, w32, w64, Bor, MutBor}
-use Rattle.std.specs.List.{All, slice_get}
-use Rattle.cell_frames.specs.Joined.{StoreView, view_of}
-use Rattle.client_port.specs.Clients.{clients_of}
-use Rattle.client_port.specs.Ports.{due_of}
-use Rattle.dura_value.specs.Ids.{client as client_id}
-use Rattle.dura_value.specs.Ids.{home}
-use Rattle.dura_value.specs.Views.{id_of}
-use Rattle.engine_rounds.specs.Rest.{AreStatesOfCells, IsAtRest, IsAwaited, IsAwaitedAt}
-use Rattle.hub_store.specs.Changes.{trail_in}
-use Rattle.node_core.specs.Running.{IsRunning}
-use Rattle.part_steps.specs.States.{AreStatesOfAll, parts_in, state_of}
-use Rattle.request_reader.specs.Line.{Request}
-use Rattle.rest_laws.specs.Rest.{AreAtRest}
-use Rattle.spec_cell.specs.Views.{CellView}
+use Rattle.std.proofs.Common.{◌≡◌, ◌∙◌, ◌++◌, ◌∷◌, [], length, map, ap, arith, length-append}
+use Rattle.std.proofs.lemmas.List.{map-append}
+use Rattle.engine_rounds.proofs.AtRest.{no_states, one_more_state}
 use Rattle.engine_rounds.proofs.resting.states_of.Goals as goal
 
--- src/resting.rt:39:5
 pub cells-init : goal.cells-init
-cells-init g c = ?
+cells-init g c =
+    let none = ap (map (λ s. s.now)) c.new-states.ensures.items in
+    record { many = ap length none; each = no_states g.M.Picked.rules c.args.cells.now (map (λ s. s.now) c.new-states.result.items) none }
 
--- src/resting.rt:39:5
 pub cells-preserved : goal.cells-preserved
-cells-preserved g c = ?
+cells-preserved g c =
+    let inv = c.cells.invariant in
+    let old = map (λ s. s.now) c.cells.states.items in
+    let now = map (λ s. s.now) c.push.new.self.items in
+    let s = c.in-Some.base.now in
+    let is : now ≡ old ++ s ∷ [] = ap (map (λ s. s.now)) c.in_ok-push.ensures.items ∙ map-append (λ s. s.now) c.cells.states.items (c.in-Some.base ∷ []) in
+    let base = c.in-Some.ensures in
+    record {
+      many = let long = ap length is in let more = length-append old (s ∷ []) in let many = inv.many in omega (arith, long, more, many);
+      each = one_more_state g.M.Picked.rules c.args.cells.now old now c.cells.cell-index c.cell-item.result s inv.many c.cells-test.true c.cell-item.is is (record { sound = base.sound; among = base.partitions; base = base.base }) inv.each;
+    }
 
--- src/resting.rt:31:1
 pub returns : goal.returns
-returns g c = ?
+returns g c =
+    let inv = c.cells.invariant in
+    record { many = let many = inv.many in let low = c.cells.auto.cell-index-end in let high = c.cells-test.false in omega (arith, many, low, high); each = inv.each }

@@ -1,19 +1,12 @@
-use Rattle.std.proofs.Common.{◌≡◌, ◌<◌, ◌≤◌, true, length, map, IfOk, Some, ℕ, ◌+◌, ◌-◌, ◌*◌}
-use Rattle.std.specs.List.{All, slice_get}
-use Rattle.cell_frames.specs.Joined.{StoreView, view_of}
-use Rattle.client_port.specs.Clients.{clients_of}
-use Rattle.client_port.specs.Ports.{due_of}
-use Rattle.dura_value.specs.Ids.{client as client_id}
-use Rattle.dura_value.specs.Ids.{home}
-use Rattle.dura_value.specs.Views.{id_of}
-use Rattle.engine_rounds.specs.Rest.{AreStatesOfCells, IsAtRest, IsAwaited, IsAwaitedAt}
-use Rattle.hub_store.specs.Changes.{trail_in}
-use Rattle.node_core.specs.Running.{IsRunning}
-use Rattle.part_steps.specs.States.{AreStatesOfAll, parts_in, state_of}
-use Rattle.request_reader.specs.Line.{Request}
-use Rattle.rest_laws.specs.Rest.{AreAtRest}
+use Rattle.std.proofs.Common.{◌≡◌, ℕ, Some, length, map, slice_get}
+use Rattle.engine_rounds.specs.Rest.{IsStateOfCell}
+use Rattle.part_steps.specs.declared.state.PartState.{PartState}
 use Rattle.spec_cell.specs.Views.{CellView}
 use Rattle.engine_rounds.proofs.resting.states_of.Given as goal
 
+-- those of the cells so far
 abbrev pub invariant-cells : goal.invariant-cells
-invariant-cells g l = ?
+invariant-cells g l = record {
+  many : length (map (λ s. s.now) l.states.items) ≡ l.cell-index;
+  each : (p : ℕ) (s : PartState) → slice_get (map (λ s. s.now) l.states.items) p ≡ Some s → (c : CellView) × (slice_get l.cells p ≡ Some c) × IsStateOfCell g.M.Picked.rules c s;
+}

@@ -1,4 +1,4 @@
-use Rattle.std.proofs.Common.{◌≡◌, ◌≤◌, ◌∙◌, ℕ, List, Ok, Err, IfErr, IfOk, OnOk, refl, sym, ap, subst, arith}
+use Rattle.std.proofs.Common.{◌∙◌, ℕ, List, [], Some, IfErr, IfOk, OnOk, sym, ap, subst, arith}
 use Rattle.call_begins.proofs.Further.{run_further, nothing_before}
 use Rattle.call_begins.proofs.Says.{all_said}
 use Rattle.call_begins.specs.Says.{SaysAll}
@@ -6,15 +6,16 @@ use Rattle.commit_gate.specs.Ledgers.{log_length}
 use Rattle.engine_rounds.proofs.Opens.{ended_so, halted_so, went_on}
 use Rattle.engine_rounds.specs.Ends.{EndsAs}
 use Rattle.engine_rounds.specs.Served.{LeavesRuns, came_of, refusal_in}
-use Rattle.engine_rounds.specs.declared.serving.Came.{Came}
-use Rattle.engine_rounds.specs.declared.serving.Came.TheVariants as cames
 use Rattle.gated_store.specs.Causal.{Causal}
 use Rattle.gated_store.specs.Follows.{ledgers_at}
 use Rattle.hub_store.specs.Changes.{trail_in, told_in}
-use Rattle.hub_store.specs.Trail.{Settled, settled_at}
+use Rattle.hub_store.specs.Short.{IsShort}
+use Rattle.hub_store.specs.Trail.{Settled, of_part, settled_at}
 use Rattle.many_rules.specs.Ledgers.{ledgers}
 use Rattle.node_core.specs.Halts.{IsPast, RisesFor}
 use Rattle.node_core.specs.declared.halt.Halt.TheVariants as halts
+use Rattle.round_steps.specs.Serving.{IsServing}
+use Rattle.site_model.specs.History.{content_of}
 use Rattle.site_model.specs.Moments.{Always}
 use Rattle.engine_rounds.proofs.serving.serve_over.Goals as goal
 
@@ -30,7 +31,7 @@ returns-clause-crash g c = λ tells digest begins.
     let heard = c.drive-rounds.ensures.heard c.requires.latest in
     subst (λ site. LeavesRuns rules (g.C.Clock.latest c.drive-rounds.new.clock) digest o (g.V.Site.history site) c.end_call-site.result.trail) (sym e.site)
     (subst (λ (t : List Settled). LeavesRuns rules (g.C.Clock.latest c.drive-rounds.new.clock) digest o (g.V.Site.history logs.site) t) (sym e.trail)
-    (λ moment low high files image. (logs.latest, (heard, e.crash digest (subst g.V.Site.tells e.site tells) begins c.requires.begun.numbered moment low high files image))))
+    (λ moment low high files image. (logs.latest, heard, e.crash digest (subst g.V.Site.tells e.site tells) begins c.requires.begun.numbered moment low high files image)))
 
 pub returns-clause-further : goal.returns-clause-further
 returns-clause-further g c = λ tells.
@@ -52,7 +53,7 @@ returns-clause-on g c =
     record {
       told = told_in logs;
       queues = c.drive-rounds.new.course.port;
-      port_is = ?;
+      port_is = ap Some c.into_port.ensures;
       says = λ tells apart.
           let whole = h.whole (λ is. apart (c.came_of.ensures ∙ ap came_of is)) in
           let said = all_said rules o (g.V.Site.history logs.site) (trail_in logs) (told_in logs) ((h.kept.sound.told (subst g.V.Site.tells e.site tells)).rests whole) in
@@ -60,7 +61,7 @@ returns-clause-on g c =
           (subst (λ (t : List Settled). SaysAll rules o.steps (g.V.Site.history logs.site) t (told_in logs)) (sym e.trail) said);
       ends = λ end came.
           let is = ended_so c.drive-rounds.result end (sym c.came_of.ensures ∙ came) in
-          let serving = subst (λ r. OnOk r _) is h.serving in
+          let serving = subst (λ r. OnOk r (IsServing o rules c.drive-rounds.new.store c.drive-rounds.new.cells.items c.drive-rounds.new.course.port)) is h.serving in
           let ends = subst (λ r. IfOk r (EndsAs rules c.args.pace.steps (trail_in logs) c.drive-rounds.new.course.port)) is h.ends in
           (serving.said, subst (λ (t : List Settled). EndsAs rules c.args.pace.steps t c.drive-rounds.new.course.port end) (sym e.trail) ends);
     }
@@ -79,3 +80,26 @@ returns-clause-clock_fault g c = λ came. c.drive-rounds.ensures.clock (halted_s
 pub returns-clause-past : goal.returns-clause-past
 returns-clause-past g c = λ halt came.
     subst (λ r. IfErr r (IsPast c.args.call.store.logs.segment)) (halted_so c.drive-rounds.result halt (sym c.came_of.ensures ∙ came)) c.drive-rounds.ensures.past
+
+pub returns-clause-causal : goal.returns-clause-causal
+returns-clause-causal g c =
+    let rules = g.N.Named.rules in
+    subst (λ (t : List Settled). Causal (λ partition. ledgers rules partition []) (λ settled partition. log_length (ledgers_at (ledgers rules) settled partition)) t) (sym c.end_call-site.ensures.trail) c.end_call-site.ensures.causal
+
+pub returns-clause-short : goal.returns-clause-short
+returns-clause-short g c = λ tells p below.
+    let e = c.end_call-site.ensures in
+    let logs = c.drive-rounds.new.store.logs in
+    let o = g.N.Named.origin in
+    subst (λ site. IsShort c.args.call.store.logs.segment (of_part p c.end_call-site.result.trail) (content_of (o.logs p).file (g.V.Site.history site))) (sym e.site)
+    (subst (λ (t : List Settled). IsShort c.args.call.store.logs.segment (of_part p t) (content_of (o.logs p).file (g.V.Site.history logs.site))) (sym e.trail)
+    (subst (λ (n : ℕ). IsShort n (of_part p (trail_in logs)) (content_of (o.logs p).file (g.V.Site.history logs.site))) c.drive-rounds.ensures.goes.segment (e.short (subst g.V.Site.tells e.site tells) p below)))
+
+pub returns-clause-later : goal.returns-clause-later
+returns-clause-later g c =
+    let goes = c.drive-rounds.ensures.goes in
+    let disk = ap g.V.Site.disk_faults c.end_call-site.ensures.site in
+    let say = ap g.V.Site.say_faults c.end_call-site.ensures.site in
+    let disk_later = goes.disk_faults in
+    let say_later = goes.say_faults in
+    (omega (arith, disk, disk_later), omega (arith, say, say_later))

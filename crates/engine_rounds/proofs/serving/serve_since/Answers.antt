@@ -1,7 +1,10 @@
-use Rattle.std.proofs.Common.{ℕ, List, [], map, refl, sym, subst, true}
+use Rattle.std.proofs.Common.{ℕ, List, map, refl, sym, subst, true, arith}
 use Rattle.call_begins.proofs.Going.{has_begun}
 use Rattle.call_begins.specs.Begins.{call_rules}
+use Rattle.engine_rounds.proofs.Opens.{why_memory}
+use Rattle.engine_rounds.specs.Served.{refusal_in}
 use Rattle.hub_store.specs.Trail.{settled_at}
+use Rattle.node_core.proofs.Steps.{rises_later}
 use Rattle.open_logs.proofs.KeptRun.{kept_by_other, same_own}
 use Rattle.open_logs.proofs.Picked.{origin_is}
 use Rattle.open_logs.specs.Begun.{AreTheirs}
@@ -46,7 +49,7 @@ returns-in-Ok-clause-served g c = λ none.
       run = run;
       steps = g.V.Site.history c.open_logs.new.site;
       made = made.0;
-      causal = e.causal;
+      causal = e.causal none;
       theirs = λ tells. theirs (e.tells tells);
       opening = λ tells. c.open_logs.ensures.during (e.tells tells);
       further = λ tells. e.further tells none;
@@ -58,13 +61,24 @@ returns-in-Ok-clause-served g c = λ none.
           let on = e.crash tells none shape.digest begins moment low high files image in
           let steps = g.V.Site.history c.serve_named.result.site in (
             on.0,
-            (
-              on.1,
-              order_stands rules other kept.states on.0 shape.digest (origin_of shape.count shape.digest (g.V.Site.history c.open_logs.new.site) c.in-Ok.begun) (back_to moment steps) (settled_at moment c.serve_named.result.trail) files
-                  kept.below (λ partition low. same_own shape.count shape.digest before run other made.0.below kept.below (theirs told) kept.kept partition) kept.made on.2,
-            ),
+            on.1,
+            order_stands rules other kept.states on.0 shape.digest (origin_of shape.count shape.digest (g.V.Site.history c.open_logs.new.site) c.in-Ok.begun) (back_to moment steps) (settled_at moment c.serve_named.result.trail) files
+                kept.below (λ partition low. same_own shape.count shape.digest before run other made.0.below kept.below (theirs told) kept.kept partition) kept.made on.2,
           );
+      short = λ tells. e.short tells none;
+      on = e.on none;
     }
 
 pub returns-in-Ok-clause-refused : goal.returns-in-Ok-clause-refused
-returns-in-Ok-clause-refused g c = ?
+returns-in-Ok-clause-refused g c = λ tells.
+    let shape = c.args.shape in
+    why_memory (g.R.Reactions.flows c.args.reactions.now) shape.count shape.digest (λ file. content_of file (g.V.Site.history c.args.site)) (refusal_in c.serve_named.result.came) c.serve_named.ensures.memory
+
+pub returns-in-Ok-clause-halts : goal.returns-in-Ok-clause-halts
+returns-in-Ok-clause-halts g c = λ halt came.
+    let e = c.serve_named.ensures in
+    let before = c.args.site in
+    let opened = c.open_logs.new.site in
+    let now = c.serve_named.result.site in
+    let say = c.open_logs.ensures.say_faults in
+    rises_later (g.V.Site.disk_faults before) (g.V.Site.say_faults before) (g.V.Site.disk_faults opened) (g.V.Site.say_faults opened) (g.V.Site.disk_faults now) (g.V.Site.say_faults now) halt c.open_logs.ensures.later e.later.0 (omega (arith, say)) e.later.1 (e.halts halt came)

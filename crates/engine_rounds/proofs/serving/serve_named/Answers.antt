@@ -1,0 +1,31 @@
+use Rattle.std.proofs.Common.{◌≡◌, ◌∙◌, ℕ, sym, ap, subst, arith}
+use Rattle.client_port.specs.Ports.{queues_of}
+use Rattle.engine_rounds.proofs.Opens.{first_serves}
+use Rattle.hub_store.specs.Short.{IsShort}
+use Rattle.hub_store.specs.Trail.{of_part}
+use Rattle.many_rules.specs.Rules.{Rules}
+use Rattle.site_model.specs.History.{content_of}
+use Rattle.engine_rounds.proofs.serving.serve_named.Goals as goal
+
+pub serve_over-requires-clause-serving : goal.serve_over-requires-clause-serving
+serve_over-requires-clause-serving g c =
+    let rules = g.N.Named.rules in
+    let count : rules.count ≡ c.args.shape.count = ap (λ (r : Rules). r.count) c.requires.rules in
+    let e = c.in-Ok-begin_call.ensures in
+    let call = c.in-Ok-begin_call.call in
+    let some = c.requires.some in
+    let few = c.requires.few in
+    first_serves g.N.Named.origin rules call.store call.cells.items c.in-Ok.course.port c.requires.goes (omega (arith, count, some)) (omega (arith, count, few)) (e.many ∙ sym count) e.kept e.untouched e.joined
+    (c.in-Ok.ensures.port ∙ ap queues_of (sym (ap (λ (r : Rules). r.requests) c.requires.rules)))
+
+pub serve_over-requires-clause-clients : goal.serve_over-requires-clause-clients
+serve_over-requires-clause-clients g c =
+    c.deref.ensures.value ∙ c.in-Ok.ensures.clients ∙ (serve_over-requires-clause-serving g c).said.clients
+
+pub returns-in-Ok-begin_call-clause-short : goal.returns-in-Ok-begin_call-clause-short
+returns-in-Ok-begin_call-clause-short g c = λ tells none p below.
+    let rules = g.N.Named.rules in
+    let count : rules.count ≡ c.args.shape.count = ap (λ (r : Rules). r.count) c.requires.rules in
+    let same : rules.count ≡ g.N.Named.origin.count = g.N.Named.counts in
+    let site = g.V.Site.history c.serve_over.result.site in
+    subst (λ (n : ℕ). IsShort n (of_part p c.serve_over.result.trail) (content_of (g.N.Named.origin.logs p).file site)) c.in-Ok-begin_call.ensures.segment (c.serve_over.ensures.short tells p (omega (arith, below, count, same)))
