@@ -1,3 +1,2 @@
-mod AtRest
 mod Heard
 mod Opens

@@ -6,15 +6,21 @@ use Rattle.call_begins.specs.Begins.{IsUntouched}
 use Rattle.cell_frames.specs.Begun.{HasBegun}
 use Rattle.cell_frames.specs.Joined.{view_of}
 use Rattle.client_port.specs.Ports.{Queue, queues_of}
-use Rattle.engine_rounds.specs.Served.{came_of, refusal_in}
+use Rattle.dura_model.proofs.Outcomes.{never_twice}
+use Rattle.dura_model.specs.Steps.{Label}
+use Rattle.engine_rounds.specs.Served.{StandsOrderly, came_of, refusal_in}
 use Rattle.engine_rounds.specs.declared.driving.End.{End}
 use Rattle.engine_rounds.specs.declared.serving.Came.TheVariants as cames
 use Rattle.flow_syntax.specs.Syntax.{Flows}
 use Rattle.gated_store.specs.declared.local.Gated as gated_types
 use Rattle.gated_store.specs.declared.store.GatedStore.{GatedStore}
 use Rattle.hub_store.specs.Origin.{Origin}
+use Rattle.hub_store.specs.Trail.{Settled}
 use Rattle.hub_store.specs.declared.start.Start as starts
-use Rattle.many_rules.specs.Rules.{Rules}
+use Rattle.many_logs.specs.Labels.{labels_of_commits}
+use Rattle.many_logs.specs.Placing.{frames_in_order}
+use Rattle.many_rules.specs.Leaves.{StandsOn}
+use Rattle.many_rules.specs.Rules.{Rules, commits_of}
 use Rattle.node_core.specs.Running.{Keeps}
 use Rattle.node_core.specs.declared.halt.Halt.{Halt}
 use Rattle.open_logs.specs.Spent.{WhyUnopened}
@@ -23,6 +29,8 @@ use Rattle.open_logs.specs.declared.error.OpenError.TheVariants as refusals
 use Rattle.recover_core.specs.declared.error.RecoverError.TheVariants as errors
 use Rattle.round_steps.proofs.Queues.{said_first}
 use Rattle.round_steps.specs.Serving.{IsServing}
+use Rattle.run_laws.proofs.Ordered.{never_overlaps}
+use Rattle.site_model.specs.History.{Step}
 use Rattle.site_model.specs.declared.site.Site as sites
 use Rattle.spec_cell.specs.Views.{CellView}
 use Rattle.world_steps.specs.Cells.{AllJoined}
@@ -57,3 +65,16 @@ halted_so (Err other) halt is = ap Err (cc is)
 pub ok_holds : {A E : Type 0} (r : Result A E) (P : Type 0) → is_err r ≡ false → OnOk r P → P
 ok_holds (Ok a) P fine holds = holds
 ok_holds (Err e) P fine holds = absurd (cc fine)
+
+-- a legal run is orderly
+pub stands_orderly : (rules : Rules) (latest digest : ℕ) (o : Origin) (steps : List Step) (trail : List Settled) (files : ℕ → List ℕ) → StandsOn rules latest digest o steps trail files → (labels : List Label) × StandsOrderly rules latest digest o steps trail files labels
+stands_orderly rules latest digest o steps trail files on =
+    let labels = labels_of_commits rules.recovered ++ labels_of_commits (commits_of trail) ++ labels_of_commits (frames_in_order rules.count on.going) in (
+      labels,
+      record {
+        on = on;
+        labels_are = refl;
+        once = λ id task. never_twice rules.flows labels _ on.stands.legal id task;
+        apart = λ front rest world split legal overlap. never_overlaps rules.flows front world legal overlap;
+      },
+    )

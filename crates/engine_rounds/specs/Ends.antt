@@ -1,7 +1,7 @@
 -- Why rounds end.
 use Rattle.std.specs.Prelude.{◌≡◌, ◌≤◌, ℕ, List}
 use Rattle.client_port.specs.Ports.{Queue}
-use Rattle.engine_rounds.specs.Rest.{IsAtRest}
+use Rattle.rest_check.specs.Rest.{IsAtRest}
 use Rattle.engine_rounds.specs.declared.driving.End.{End}
 use Rattle.engine_rounds.specs.declared.driving.End.TheVariants as ends
 use Rattle.hub_store.specs.Trail.{Settled}

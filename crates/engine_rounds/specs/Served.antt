@@ -1,5 +1,5 @@
 -- What a call that serves clients over many partitions leaves.
-use Rattle.std.specs.Prelude.{◌≡◌, ◌≢◌, ◌≤◌, ◌<◌, ℕ, true, List, [], length, Option, Some, None, Result, Ok, Err}
+use Rattle.std.specs.Prelude.{◌≡◌, ◌≢◌, ◌≤◌, ◌<◌, ℕ, true, List, [], ◌++◌, length, Option, Some, None, Result, Ok, Err}
 use Rattle.call_begins.specs.Begins.{call_rules}
 use Rattle.call_begins.specs.Says.{SaysAll}
 use Rattle.client_port.specs.Ports.{Queue}
@@ -8,17 +8,22 @@ use Rattle.engine_rounds.specs.Ends.{EndsAs}
 use Rattle.engine_rounds.specs.declared.driving.End.{End}
 use Rattle.engine_rounds.specs.declared.serving.Came.{Came}
 use Rattle.engine_rounds.specs.declared.serving.Came.TheVariants as cames
+use Rattle.dura_model.specs.Legal.{Legal, Overlap, finishes}
+use Rattle.dura_model.specs.Steps.{Label}
+use Rattle.dura_model.specs.World.{World}
+use Rattle.dura_value.specs.Ids.{Id}
 use Rattle.flow_syntax.specs.Syntax.{Flows}
 use Rattle.gated_store.specs.Causal.{Causal}
 use Rattle.gated_store.specs.Follows.{ledgers_at}
 use Rattle.hub_store.specs.Origin.{Origin}
 use Rattle.hub_store.specs.Short.{IsShort}
 use Rattle.hub_store.specs.Trail.{Settled, Said, of_part, settled_at}
-use Rattle.many_logs.specs.Placing.{Commit}
+use Rattle.many_logs.specs.Labels.{labels_of_commits}
+use Rattle.many_logs.specs.Placing.{Commit, frames_in_order}
 use Rattle.many_logs.specs.Stands.{AreKept}
 use Rattle.many_rules.specs.Leaves.{StandsOn}
 use Rattle.many_rules.specs.Ledgers.{ledgers}
-use Rattle.many_rules.specs.Rules.{Rules}
+use Rattle.many_rules.specs.Rules.{Rules, commits_of}
 use Rattle.node_core.specs.declared.halt.Halt.{Halt}
 use Rattle.node_core.specs.declared.halt.Halt.TheVariants as halts
 use Rattle.open_logs.specs.Begun.{MadeBy, AreTheirs}
@@ -42,10 +47,17 @@ abbrev pub came_of : Result End Halt → Came
 came_of (Ok end) = cames.Ended end
 came_of (Err halt) = cames.Halted halt
 
+-- What a crash leaves. In the run for which it stands no task is ended twice, and no two critical sections ever overlap.
+pub record StandsOrderly (rules : Rules) (latest digest : ℕ) (o : Origin) (steps : List Step) (trail : List Settled) (files : ℕ → List ℕ) (labels : List Label) : Type 0 where
+  pub on : StandsOn rules latest digest o steps trail files
+  pub labels_are : labels ≡ labels_of_commits rules.recovered ++ labels_of_commits (commits_of trail) ++ labels_of_commits (frames_in_order rules.count on.going)
+  pub once : (id : Id) (task : ℕ) → finishes id task labels ≤ 1
+  pub apart : (front rest : List Label) (world : World) → labels ≡ front ++ rest → Legal rules.flows front world → Overlap world → ⊥
+
 -- From the moment on at which a call begins, a crash leaves files that stand for a run by the rules, of no later stamp than this.
 abbrev pub LeavesRuns : Rules → (latest digest : ℕ) → Origin → (new : List Step) → List Settled → Type 0
 LeavesRuns rules latest digest o new trail = (moment : ℕ) → length o.steps ≤ moment → moment ≤ length new → (files : ℕ → List ℕ) → IsImage (back_to moment new) files
-    → (by : ℕ) × (by ≤ latest) × StandsOn rules by digest o (back_to moment new) (settled_at moment trail) files
+    → (by : ℕ) × (by ≤ latest) × (labels : List Label) × StandsOrderly rules by digest o (back_to moment new) (settled_at moment trail) files labels
 
 -- Unless saying failed, the tape goes on by one line for each of these requests, which answers it. And where rounds ended, that is what the port
 -- has said, and they ended for this cause.

@@ -12,7 +12,6 @@ ghost use Rattle.site_model.specs.Calls.{HasRisen};
 ghost use Rattle.world_steps.specs.Known.{AreMarksOf};
 
 use crate::pumping::{Pumped, hear, pump};
-use crate::resting::is_at_rest;
 use activity_table::Activities;
 use cell_frames::Seat;
 use cell_steps::Mode;
@@ -21,6 +20,7 @@ use gated_store::GatedStore;
 use many_rules::{ByRules, Picked};
 use node_core::{Halt, judge_all, send};
 use part_rows::Reactions;
+use rest_check::is_at_rest;
 use round_steps::{
     Course, Pace, count_labels, follow_plan, own_all, round, serve_all, serve_reached,
 };

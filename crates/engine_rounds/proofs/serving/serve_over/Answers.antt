@@ -3,7 +3,7 @@ use Rattle.call_begins.proofs.Further.{run_further, nothing_before}
 use Rattle.call_begins.proofs.Says.{all_said}
 use Rattle.call_begins.specs.Says.{SaysAll}
 use Rattle.commit_gate.specs.Ledgers.{log_length}
-use Rattle.engine_rounds.proofs.Opens.{ended_so, halted_so, went_on}
+use Rattle.engine_rounds.proofs.Opens.{ended_so, halted_so, stands_orderly, went_on}
 use Rattle.engine_rounds.specs.Ends.{EndsAs}
 use Rattle.engine_rounds.specs.Served.{LeavesRuns, came_of, refusal_in}
 use Rattle.gated_store.specs.Causal.{Causal}
@@ -15,7 +15,7 @@ use Rattle.many_rules.specs.Ledgers.{ledgers}
 use Rattle.node_core.specs.Halts.{IsPast, RisesFor}
 use Rattle.node_core.specs.declared.halt.Halt.TheVariants as halts
 use Rattle.round_steps.specs.Serving.{IsServing}
-use Rattle.site_model.specs.History.{content_of}
+use Rattle.site_model.specs.History.{back_to, content_of}
 use Rattle.site_model.specs.Moments.{Always}
 use Rattle.engine_rounds.proofs.serving.serve_over.Goals as goal
 
@@ -31,7 +31,7 @@ returns-clause-crash g c = λ tells digest begins.
     let heard = c.drive-rounds.ensures.heard c.requires.latest in
     subst (λ site. LeavesRuns rules (g.C.Clock.latest c.drive-rounds.new.clock) digest o (g.V.Site.history site) c.end_call-site.result.trail) (sym e.site)
     (subst (λ (t : List Settled). LeavesRuns rules (g.C.Clock.latest c.drive-rounds.new.clock) digest o (g.V.Site.history logs.site) t) (sym e.trail)
-    (λ moment low high files image. (logs.latest, heard, e.crash digest (subst g.V.Site.tells e.site tells) begins c.requires.begun.numbered moment low high files image)))
+    (λ moment low high files image. (logs.latest, heard, stands_orderly rules logs.latest digest o (back_to moment (g.V.Site.history logs.site)) (settled_at moment (trail_in logs)) files (e.crash digest (subst g.V.Site.tells e.site tells) begins c.requires.begun.numbered moment low high files image))))
 
 pub returns-clause-further : goal.returns-clause-further
 returns-clause-further g c = λ tells.

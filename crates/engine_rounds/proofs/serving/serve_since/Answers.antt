@@ -1,7 +1,7 @@
 use Rattle.std.proofs.Common.{ℕ, List, map, refl, sym, subst, true, arith}
 use Rattle.call_begins.proofs.Going.{has_begun}
 use Rattle.call_begins.specs.Begins.{call_rules}
-use Rattle.engine_rounds.proofs.Opens.{why_memory}
+use Rattle.engine_rounds.proofs.Opens.{stands_orderly, why_memory}
 use Rattle.engine_rounds.specs.Served.{refusal_in}
 use Rattle.hub_store.specs.Trail.{settled_at}
 use Rattle.node_core.proofs.Steps.{rises_later}
@@ -59,12 +59,12 @@ returns-in-Ok-clause-served g c = λ none.
           let keeps = kept_by_other flows shape.count shape.digest before c.in-Ok.begun run made.0 (theirs told) other kept in
           let begins = (c.in-Ok.ensures.opened told).begins rules (record { flows_are = refl; count_is = refl; states = refl; kept = keeps }) in
           let on = e.crash tells none shape.digest begins moment low high files image in
-          let steps = g.V.Site.history c.serve_named.result.site in (
-            on.0,
-            on.1,
-            order_stands rules other kept.states on.0 shape.digest (origin_of shape.count shape.digest (g.V.Site.history c.open_logs.new.site) c.in-Ok.begun) (back_to moment steps) (settled_at moment c.serve_named.result.trail) files
-                kept.below (λ partition low. same_own shape.count shape.digest before run other made.0.below kept.below (theirs told) kept.kept partition) kept.made on.2,
-          );
+          let steps = g.V.Site.history c.serve_named.result.site in
+          let origin = origin_of shape.count shape.digest (g.V.Site.history c.open_logs.new.site) c.in-Ok.begun in
+          let trail = settled_at moment c.serve_named.result.trail in
+          let stands = order_stands rules other kept.states on.0 shape.digest origin (back_to moment steps) trail files kept.below
+          (λ partition low. same_own shape.count shape.digest before run other made.0.below kept.below (theirs told) kept.kept partition) kept.made on.3.on in
+          (on.0, on.1, stands_orderly (call_rules flows shape.count c.in-Ok.begun other requests true) on.0 shape.digest origin (back_to moment steps) trail files stands);
       short = λ tells. e.short tells none;
       on = e.on none;
     }

@@ -1,8 +1,8 @@
 use Rattle.std.proofs.Common.{◌≡◌, ℕ, Some, length, map, slice_get}
-use Rattle.engine_rounds.specs.Rest.{IsStateOfCell}
+use Rattle.rest_check.specs.Rest.{IsStateOfCell}
 use Rattle.part_steps.specs.declared.state.PartState.{PartState}
 use Rattle.spec_cell.specs.Views.{CellView}
-use Rattle.engine_rounds.proofs.resting.states_of.Given as goal
+use Rattle.rest_check.proofs.resting.states_of.Given as goal
 
 -- those of the cells so far
 abbrev pub invariant-cells : goal.invariant-cells

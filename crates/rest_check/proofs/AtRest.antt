@@ -16,7 +16,7 @@ use Rattle.dura_model.specs.Entries.{placed}
 use Rattle.dura_model.specs.Partition.{Partition}
 use Rattle.dura_value.specs.Ids.{Id, client, home}
 use Rattle.dura_value.specs.Items.{Entry}
-use Rattle.engine_rounds.specs.Rest.{AreAwaitedAt, AreStatesOfCells, IsNextAwaitedAt, IsStateOfCell, IsAtRest, IsAwaited, IsAwaitedAt}
+use Rattle.rest_check.specs.Rest.{AreAwaitedAt, AreStatesOfCells, IsNextAwaitedAt, IsStateOfCell, IsAtRest, IsAwaited, IsAwaitedAt}
 use Rattle.gated_store.specs.declared.local.Gated as gated_types
 use Rattle.gated_store.specs.declared.store.GatedStore.{GatedStore}
 use Rattle.hub_store.specs.Changes.{trail_in}

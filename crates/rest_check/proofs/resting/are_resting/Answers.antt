@@ -1,9 +1,9 @@
 use Rattle.std.proofs.Common.{◌≡◌, ◌↔◌, true, length, map, sym, subst}
 use Rattle.std.proofs.lemmas.List.{length-map}
-use Rattle.engine_rounds.proofs.AtRest.{all_states}
+use Rattle.rest_check.proofs.AtRest.{all_states}
 use Rattle.part_steps.specs.States.{AreStatesOfAll, parts_in}
 use Rattle.rest_laws.specs.Rest.{AreAtRest}
-use Rattle.engine_rounds.proofs.resting.are_resting.Goals as goal
+use Rattle.rest_check.proofs.resting.are_resting.Goals as goal
 
 pub are_at_rest-requires : goal.are_at_rest-requires
 are_at_rest-requires g c =

@@ -1,7 +1,7 @@
 use Rattle.std.proofs.Common.{◌∙◌, refl, sym}
-use Rattle.engine_rounds.proofs.AtRest.{all_at, all_next, all_none, all_whole, home_of_all}
-use Rattle.engine_rounds.specs.Rest.{IsNextAwaitedAt}
-use Rattle.engine_rounds.proofs.resting.are_awaited.Goals as goal
+use Rattle.rest_check.proofs.AtRest.{all_at, all_next, all_none, all_whole, home_of_all}
+use Rattle.rest_check.specs.Rest.{IsNextAwaitedAt}
+use Rattle.rest_check.proofs.resting.are_awaited.Goals as goal
 
 pub clients-init : goal.clients-init
 clients-init g c = all_none (IsNextAwaitedAt g.M.Picked.rules c.args.cells.now c.args.port.now)

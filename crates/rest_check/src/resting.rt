@@ -6,7 +6,7 @@ ghost use Rattle.client_port.specs.Clients.{clients_of};
 ghost use Rattle.client_port.specs.Ports.{due_of};
 ghost use Rattle.dura_value.specs.Ids.{client as client_id, home};
 ghost use Rattle.dura_value.specs.Views.{id_of};
-ghost use Rattle.engine_rounds.specs.Rest.{AreAwaitedAt, AreStatesOfCells, IsAtRest, IsAwaited, IsAwaitedAt};
+ghost use Rattle.rest_check.specs.Rest.{AreAwaitedAt, AreStatesOfCells, IsAtRest, IsAwaited, IsAwaitedAt};
 ghost use Rattle.hub_store.specs.Changes.{trail_in};
 ghost use Rattle.node_core.specs.Running.{IsRunning};
 ghost use Rattle.part_steps.specs.States.{parts_in, state_of};
@@ -131,7 +131,7 @@ fn are_awaited<M: Picked>(
 
 /// Whether nothing is possible any more, as it is settled: all partitions are at rest, and what comes next of each client was taken and isn't
 /// answered.
-pub(crate) fn is_at_rest<V: Site, M: Picked>(
+pub fn is_at_rest<V: Site, M: Picked>(
     alloc: Global,
     store: &GatedStore<V, ByRules<M>>,
     cells: &[Cell<Seat<M>>],

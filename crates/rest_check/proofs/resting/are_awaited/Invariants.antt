@@ -1,7 +1,7 @@
 use Rattle.std.proofs.Common.{take}
 use Rattle.std.specs.List.{All}
-use Rattle.engine_rounds.specs.Rest.{IsNextAwaitedAt}
-use Rattle.engine_rounds.proofs.resting.are_awaited.Given as goal
+use Rattle.rest_check.specs.Rest.{IsNextAwaitedAt}
+use Rattle.rest_check.proofs.resting.are_awaited.Given as goal
 
 -- what comes next of the clients so far is
 abbrev pub invariant-clients : goal.invariant-clients

@@ -1,11 +1,11 @@
 use Rattle.std.proofs.Common.{◌≡◌, ◌↔◌, true, IfOk, Some, slice_get, sym, subst}
 use Rattle.dura_value.specs.Ids.{client, home}
-use Rattle.engine_rounds.proofs.AtRest.{awaited_here}
-use Rattle.engine_rounds.specs.Rest.{IsAwaitedAt}
+use Rattle.rest_check.proofs.AtRest.{awaited_here}
+use Rattle.rest_check.specs.Rest.{IsAwaitedAt}
 use Rattle.part_steps.specs.States.{state_of}
 use Rattle.spec_cell.specs.Views.{CellView}
-use Rattle.engine_rounds.proofs.resting.is_awaited.Goals as goal
-use Rattle.engine_rounds.proofs.resting.is_awaited.Goals.{in-Some, in-None}
+use Rattle.rest_check.proofs.resting.is_awaited.Goals as goal
+use Rattle.rest_check.proofs.resting.is_awaited.Goals.{in-Some, in-None}
 
 pub returns : goal.returns
 returns g c =

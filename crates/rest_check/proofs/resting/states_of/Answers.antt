@@ -1,7 +1,7 @@
 use Rattle.std.proofs.Common.{◌≡◌, ◌∙◌, ◌++◌, ◌∷◌, [], length, map, ap, arith, length-append}
 use Rattle.std.proofs.lemmas.List.{map-append}
-use Rattle.engine_rounds.proofs.AtRest.{no_states, one_more_state}
-use Rattle.engine_rounds.proofs.resting.states_of.Goals as goal
+use Rattle.rest_check.proofs.AtRest.{no_states, one_more_state}
+use Rattle.rest_check.proofs.resting.states_of.Goals as goal
 
 pub cells-init : goal.cells-init
 cells-init g c =

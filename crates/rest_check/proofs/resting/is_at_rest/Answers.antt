@@ -1,5 +1,5 @@
-use Rattle.engine_rounds.proofs.AtRest.{at_rest, awaited_found, rest_found}
-use Rattle.engine_rounds.proofs.resting.is_at_rest.Goals as goal
+use Rattle.rest_check.proofs.AtRest.{at_rest, awaited_found, rest_found}
+use Rattle.rest_check.proofs.resting.is_at_rest.Goals as goal
 
 pub returns-then-resting : goal.returns-then-resting
 returns-then-resting g c =
