@@ -31,7 +31,10 @@ returns-clause-crash g c = λ tells digest begins.
     let heard = c.drive-rounds.ensures.heard c.requires.latest in
     subst (λ site. LeavesRuns rules (g.C.Clock.latest c.drive-rounds.new.clock) digest o (g.V.Site.history site) c.end_call-site.result.trail) (sym e.site)
     (subst (λ (t : List Settled). LeavesRuns rules (g.C.Clock.latest c.drive-rounds.new.clock) digest o (g.V.Site.history logs.site) t) (sym e.trail)
-    (λ moment low high files image. (logs.latest, heard, stands_orderly rules logs.latest digest o (back_to moment (g.V.Site.history logs.site)) (settled_at moment (trail_in logs)) files (e.crash digest (subst g.V.Site.tells e.site tells) begins c.requires.begun.numbered moment low high files image))))
+    (λ moment low high files image.
+    let on = e.crash digest (subst g.V.Site.tells e.site tells) begins c.requires.begun.numbered moment low high files image in
+    let ordered = stands_orderly rules logs.latest digest o (back_to moment (g.V.Site.history logs.site)) (settled_at moment (trail_in logs)) files on in
+    (logs.latest, heard, ordered.0, ordered.1)))
 
 pub returns-clause-further : goal.returns-clause-further
 returns-clause-further g c = λ tells.

@@ -64,7 +64,8 @@ returns-in-Ok-clause-served g c = λ none.
           let trail = settled_at moment c.serve_named.result.trail in
           let stands = order_stands rules other kept.states on.0 shape.digest origin (back_to moment steps) trail files kept.below
           (λ partition low. same_own shape.count shape.digest before run other made.0.below kept.below (theirs told) kept.kept partition) kept.made on.3.on in
-          (on.0, on.1, stands_orderly (call_rules flows shape.count c.in-Ok.begun other requests true) on.0 shape.digest origin (back_to moment steps) trail files stands);
+          let ordered = stands_orderly (call_rules flows shape.count c.in-Ok.begun other requests true) on.0 shape.digest origin (back_to moment steps) trail files stands in
+          (on.0, on.1, ordered.0, ordered.1);
       short = λ tells. e.short tells none;
       on = e.on none;
     }
