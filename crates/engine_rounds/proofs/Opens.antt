@@ -1,6 +1,6 @@
 -- A call begins to serve clients.
 use Rattle.std.proofs.Common.{◌++◌, ◌≡◌, ◌≤◌, ◌<◌, ℕ, List, Option, Some, None, Result, Ok, Err, refl, sym, ap, subst, length}
-use Rattle.core.specs.Result.{is_err}
+use Rattle.std.specs.Result.{is_err}
 use Rattle.std.specs.Prelude.{IfSome, OnOk, false}
 use Rattle.call_begins.specs.Begins.{IsUntouched}
 use Rattle.cell_frames.specs.Begun.{HasBegun}
