@@ -79,6 +79,8 @@ fn serve_case(
     disturb: Disturb,
     plan: &str,
 ) -> Served<MemorySite, TickClock> {
+    assert!(rt; 0 < partitions && partitions <= 32);
+    assert!(rt; 0 < pace.batch && pace.batch <= 64);
     let flows = read_flows(alloc, case.flows.as_bytes()).expect(rt, "flows");
     let requests = read_requests(alloc, case.requests.as_bytes()).expect(rt, "requests");
     let site = MemorySite::new(alloc, 200_000, 10_000, Vec::new(alloc)).expect(rt, "memory");
