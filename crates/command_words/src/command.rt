@@ -41,9 +41,15 @@ fn run_command<'a>(alloc: Global) -> Result<Command<'a>, AllocError>
     ensures { IfOk result (IsCommand (record { top = run_shape; subs = [] })) }
 {
     let command = Ok(Command::new(alloc, "run"));
-    let command = with_option(alloc, command, "partitions", "1");
+    let command = with_option(alloc, command, "partitions", "4");
+    let command = with_option(alloc, command, "nodes", "1");
+    let command = with_option(alloc, command, "mode", "global");
     let command = with_option(alloc, command, "batch", "16");
     let command = with_option(alloc, command, "steps", "1048576");
+    let command = with_option(alloc, command, "seed", "0");
+    let command = with_option(alloc, command, "twice", "0");
+    let command = with_option(alloc, command, "drop", "0");
+    let command = with_option(alloc, command, "hold", "0");
     with_option(alloc, command, "segment", "2147483648")
 }
 
@@ -51,7 +57,7 @@ fn show_command<'a>(alloc: Global) -> Result<Command<'a>, AllocError>
     ensures { IfOk result (IsCommand (record { top = show_shape; subs = [] })) }
 {
     let command = Ok(Command::new(alloc, "show"));
-    with_option(alloc, command, "partitions", "1")
+    with_option(alloc, command, "partitions", "4")
 }
 
 /// The command, without its subcommands.

@@ -7,4 +7,4 @@ mod command;
 mod numbers;
 mod words;
 
-pub use words::{Call, RunOptions, WordsError, read_words};
+pub use words::{Call, RunMode, RunOptions, WordsError, read_words};

@@ -7,7 +7,7 @@ ghost use Rattle.clap.specs.declared.error.kind.ErrorKind.TheVariants.{OutOfMemo
 ghost use Rattle.clap.specs.Matches.{found_of};
 ghost use Rattle.clap.specs.Simple.{subcommand_of, subcommand_rows_of};
 ghost use Rattle.clap.specs.Walk.{rows_of};
-ghost use Rattle.command_words.specs.Command.{netherite, number_of, partitions_of, run_of, call_of, call_in};
+ghost use Rattle.command_words.specs.Command.{netherite, number_of, partitions_of, mode_of, chosen_mode, run_of, call_of, call_in};
 ghost use Rattle.command_words.specs.Reading.{WordsGive};
 ghost use Rattle.command_words.specs.declared.words.WordsError.TheVariants.{Memory};
 
@@ -19,11 +19,11 @@ use dura_value::Text;
 use std::alloc::{AllocError, Global};
 use thiserror::Error;
 
-/// The most partitions of a run, so far.
-const RUN_LIMIT: u64 = 1;
+/// The most partitions.
+const PARTITION_LIMIT: u64 = 32;
 
-/// The most partitions that are shown.
-const SHOWN_LIMIT: u64 = 32;
+/// The most nodes.
+const NODE_LIMIT: u64 = 8;
 
 /// The most items of an entry.
 const BATCH_LIMIT: u64 = 64;
@@ -31,21 +31,50 @@ const BATCH_LIMIT: u64 = 64;
 /// The most steps of a run.
 const STEPS_LIMIT: u64 = 1_048_576;
 
+/// The greatest seed.
+const SEED_LIMIT: u64 = 4_294_967_295;
+
+/// The longest period with which something befalls packets.
+const PERIOD_LIMIT: u64 = 100;
+
 /// The least limit of a log segment's bytes.
 const LEAST_SEGMENT: u64 = 4096;
 
 /// The greatest limit of a log segment's bytes.
 const SEGMENT_LIMIT: u64 = 2_147_483_648;
 
+/// How far entries run ahead of their log.
+#[derive(Clone, Copy, Drop, PartialEq, Eq)]
+pub enum RunMode {
+    /// Not at all: an entry is settled before the next is made.
+    None,
+    /// Within a partition: messages to others go out once their entry is settled.
+    Local,
+    /// Everywhere: messages go out at once.
+    Global,
+}
+
 /// How a run goes.
 #[derive(Clone, Copy, Drop, PartialEq, Eq)]
 pub struct RunOptions {
     /// How many partitions there are.
     pub partitions: u32,
+    /// How many nodes there are.
+    pub nodes: u32,
+    /// How far entries run ahead of their log.
+    pub mode: RunMode,
     /// The most items of an entry.
     pub batch: u32,
     /// The most steps.
     pub steps: u32,
+    /// What chance goes by.
+    pub seed: u32,
+    /// The period with which a packet between partitions comes two times; 0 is never.
+    pub twice: u32,
+    /// The period with which a packet between partitions doesn't come; 0 is never.
+    pub drop: u32,
+    /// The period with which a packet between partitions is held until the next one; 0 is never.
+    pub hold: u32,
     /// The limit of a log segment's bytes.
     pub segment: u64,
 }
@@ -116,12 +145,37 @@ fn number_of(matches: &ArgMatches, name: &str, least: u64, most: u64) -> Option<
     }
 }
 
-fn partitions_of(matches: &ArgMatches, most: u64) -> Option<u32>
-    requires { most < 2 ^ 32 }
-    ensures { result ≡ partitions_of most (rows_of (found_of matches.now)) }
+fn partitions_of(matches: &ArgMatches) -> Option<u32>
+    ensures { result ≡ partitions_of (rows_of (found_of matches.now)) }
 {
-    match number_of(matches, "partitions", 1, most) {
+    match number_of(matches, "partitions", 1, PARTITION_LIMIT) {
         Some(partitions) => Some(partitions as u32),
+        None => None,
+    }
+}
+
+/// The mode that a word is for.
+fn mode_of(word: &str) -> Option<RunMode>
+    ensures { result ≡ mode_of word.now }
+{
+    if word == "none" {
+        Some(RunMode::None)
+    } else if word == "local" {
+        Some(RunMode::Local)
+    } else if word == "global" {
+        Some(RunMode::Global)
+    } else {
+        None
+    }
+}
+
+/// The mode that was chosen.
+#[tactic(auto, using(crate::proofs::Rows::first_of_rows))]
+fn chosen_mode(matches: &ArgMatches) -> Option<RunMode>
+    ensures { result ≡ chosen_mode (rows_of (found_of matches.now)) }
+{
+    match matches.get_str("mode") {
+        Some(word) => mode_of(word),
         None => None,
     }
 }
@@ -129,14 +183,26 @@ fn partitions_of(matches: &ArgMatches, most: u64) -> Option<u32>
 fn run_of(matches: &ArgMatches) -> Option<RunOptions>
     ensures { result ≡ run_of (rows_of (found_of matches.now)) }
 {
-    let partitions = partitions_of(matches, RUN_LIMIT)?;
+    let partitions = partitions_of(matches)?;
+    let nodes = number_of(matches, "nodes", 1, NODE_LIMIT)?;
+    let mode = chosen_mode(matches)?;
     let batch = number_of(matches, "batch", 1, BATCH_LIMIT)?;
     let steps = number_of(matches, "steps", 1, STEPS_LIMIT)?;
+    let seed = number_of(matches, "seed", 0, SEED_LIMIT)?;
+    let twice = number_of(matches, "twice", 0, PERIOD_LIMIT)?;
+    let drop = number_of(matches, "drop", 0, PERIOD_LIMIT)?;
+    let hold = number_of(matches, "hold", 0, PERIOD_LIMIT)?;
     let segment = number_of(matches, "segment", LEAST_SEGMENT, SEGMENT_LIMIT)?;
     Some(RunOptions {
         partitions,
+        nodes: nodes as u32,
+        mode,
         batch: batch as u32,
         steps: steps as u32,
+        seed: seed as u32,
+        twice: twice as u32,
+        drop: drop as u32,
+        hold: hold as u32,
         segment,
     })
 }
@@ -148,7 +214,7 @@ fn call_of(name: &str, matches: &ArgMatches) -> Option<Call>
     if name == "run" {
         Some(Call::Run(run_of(matches)?))
     } else {
-        Some(Call::Show(partitions_of(matches, SHOWN_LIMIT)?))
+        Some(Call::Show(partitions_of(matches)?))
     }
 }
 

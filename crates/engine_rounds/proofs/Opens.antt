@@ -23,10 +23,11 @@ use Rattle.many_rules.specs.Leaves.{StandsOn}
 use Rattle.many_rules.specs.Rules.{Rules, commits_of}
 use Rattle.node_core.specs.Running.{Keeps}
 use Rattle.node_core.specs.declared.halt.Halt.{Halt}
-use Rattle.open_logs.specs.Spent.{WhyUnopened}
+use Rattle.open_logs.specs.Spent.{OnlySynced, WhyUnopened}
 use Rattle.open_logs.specs.declared.error.OpenError.{OpenError}
 use Rattle.open_logs.specs.declared.error.OpenError.TheVariants as refusals
 use Rattle.recover_core.specs.declared.error.RecoverError.TheVariants as errors
+use Rattle.request_reader.specs.Line.{Request}
 use Rattle.round_steps.proofs.Queues.{said_first}
 use Rattle.round_steps.specs.Serving.{IsServing}
 use Rattle.run_laws.proofs.Ordered.{never_overlaps}
@@ -44,9 +45,14 @@ first_serves o rules store cells queues begun some few many kept untouched joine
 }
 
 -- where memory ran out nothing is said of why
-pub why_memory : (flows : Flows) (count digest : ℕ) (files : ℕ → List ℕ) (refused : Option OpenError) → IfSome refused (λ e. e ≡ refusals.Refused errors.Memory) → IfSome refused (WhyUnopened flows count digest files)
-why_memory flows count digest files None is = tt
-why_memory flows count digest files (Some error) is = subst (WhyUnopened flows count digest files) (sym is) tt
+pub why_memory : (flows : Flows) (count digest : ℕ) (files : ℕ → List ℕ) (requests : List Request) (refused : Option OpenError) → IfSome refused (λ e. e ≡ refusals.Refused errors.Memory) → IfSome refused (WhyUnopened flows count digest files requests)
+why_memory flows count digest files requests None is = tt
+why_memory flows count digest files requests (Some error) is = subst (WhyUnopened flows count digest files requests) (sym is) tt
+
+-- nothing is said of what happened where memory ran out
+pub synced_memory : (count : ℕ) (old new : List Step) (refused : Option OpenError) → IfSome refused (λ e. e ≡ refusals.Refused errors.Memory) → IfSome refused (OnlySynced count old new)
+synced_memory count old new None is = tt
+synced_memory count old new (Some error) is = subst (OnlySynced count old new) (sym is) tt
 
 -- ---- what rounds came to
 

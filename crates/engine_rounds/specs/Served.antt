@@ -2,6 +2,7 @@
 use Rattle.std.specs.Prelude.{◌≡◌, ◌≢◌, ◌≤◌, ◌<◌, ℕ, true, List, [], ◌++◌, length, Option, Some, None, Result, Ok, Err}
 use Rattle.call_begins.specs.Begins.{call_rules}
 use Rattle.call_begins.specs.Says.{SaysAll}
+use Rattle.client_order.specs.Clashes.{taken_in, NoClash}
 use Rattle.client_port.specs.Ports.{Queue}
 use Rattle.commit_gate.specs.Ledgers.{log_length}
 use Rattle.engine_rounds.specs.Ends.{EndsAs}
@@ -31,6 +32,7 @@ use Rattle.open_logs.specs.Moments.{OpensOnly}
 use Rattle.open_logs.specs.Picks.{origin_of}
 use Rattle.open_logs.specs.declared.begun.Begun.{Begun}
 use Rattle.open_logs.specs.declared.error.OpenError.{OpenError}
+use Rattle.part_steps.specs.States.{parts_in}
 use Rattle.request_reader.specs.Line.{Request}
 use Rattle.round_steps.specs.Serving.{HasSaid}
 use Rattle.site_model.specs.History.{Step, IsImage, back_to, content_of}
@@ -68,7 +70,7 @@ pub record SaysOn (rules : Rules) (most : ℕ) (tells : Type 0) (before now : Li
   pub says : tells → came ≢ cames.Halted halts.SayFault → SaysAll rules before now trail told
   pub ends : (end : End) → came ≡ cames.Ended end → HasSaid rules.requests told queues × EndsAs rules most trail queues end
 
--- A call began with what was recovered, and served these requests. Each entry that was settled stands behind all that it depends on. Where the
+-- A call began with what was recovered, among which nothing clashes with these requests, and served them. Each entry that was settled stands behind all that it depends on. Where the
 -- site tells, it began with what the files kept; a crash left what it could have left before, or files that keep that, as long as logs were
 -- opened, and nothing was settled; and from then on, up to the end, files that stand for a run that goes on from what the files kept, in
 -- whatever order that was accepted; and each log that was written ended below this length.
@@ -77,6 +79,7 @@ pub record IsServed (flows : Flows) (count digest segment most : ℕ) (requests 
   pub run : List Commit
   pub steps : List Step
   pub made : MadeBy flows count begun run
+  pub no_clash : NoClash (taken_in count (parts_in begun.states.items)) requests
   pub causal : Causal (λ partition. ledgers (call_rules flows count begun run requests true) partition []) (λ settled partition. log_length (ledgers_at (ledgers (call_rules flows count begun run requests true)) settled partition)) trail
   pub theirs : tells → AreTheirs count digest (λ file. content_of file old) run
   pub opening : tells → OpensOnly flows count digest old steps

@@ -13,13 +13,14 @@ ghost use Rattle.gated_store.specs.Follows.{ledgers_at};
 ghost use Rattle.hub_store.specs.Opened.{IsOrigin, HasBegun as StoreBegun};
 ghost use Rattle.hub_store.specs.Short.{IsShort};
 ghost use Rattle.hub_store.specs.Trail.{of_part, settled_at};
+ghost use Rattle.log_files.specs.Fronts.{AreSyncs};
 ghost use Rattle.many_rules.specs.Leaves.{Begins};
 ghost use Rattle.many_rules.specs.Ledgers.{ledgers};
 ghost use Rattle.node_core.specs.Halts.{IsPast, RisesFor};
 ghost use Rattle.node_core.specs.declared.halt.Halt.{Halt as HaltedFor};
 ghost use Rattle.open_logs.specs.Begun.{CanBegin, MadeBy};
 ghost use Rattle.open_logs.specs.Moments.{OpensOnly};
-ghost use Rattle.open_logs.specs.Spent.{WhyUnopened};
+ghost use Rattle.open_logs.specs.Spent.{AreRefused, OnlySynced, WhyUnopened};
 ghost use Rattle.request_reader.specs.Line.{request_of};
 ghost use Rattle.site_model.specs.Calls.{HasRisen};
 ghost use Rattle.site_model.specs.History.{content_of};
@@ -184,6 +185,7 @@ fn serve_over<V: Site, N: Named, R: Reactions, C: Clock, A: Activities>(
     ensures tells { V.tells result.site → V.tells call.store.logs.site }
     ensures went { refusal_in result.came ≡ None }
     ensures latest { C.latest clock ≤ C.latest result.clock }
+    ensures ticks { C.clock_faults clock ≤ C.clock_faults result.clock }
     ensures causal { Causal (λ partition. ledgers N.rules partition [])
         (λ settled partition. log_length (ledgers_at (ledgers N.rules) settled partition))
         result.trail }
@@ -283,6 +285,7 @@ fn serve_named<V: Site, N: Named, R: Reactions, C: Clock, A: Activities>(
         (V.tells result.site) N.origin.steps (V.history result.site) result.trail result.came
         result.port }
     ensures latest { C.latest clock ≤ C.latest result.clock }
+    ensures ticks { C.clock_faults clock ≤ C.clock_faults result.clock }
     ensures later { (V.disk_faults site ≤ V.disk_faults result.site)
         × (V.say_faults site ≤ V.say_faults result.site) }
     ensures halts { (halt : HaltedFor) → result.came ≡ Came.Halted halt
@@ -326,12 +329,23 @@ fn serve_since<V: Site, S: Since, R: Reactions, C: Clock, A: Activities>(
         → OpensOnly (R.flows reactions.now) shape.count shape.digest (V.history site)
         (V.history result.site) }
     ensures refused { V.tells result.site → IfSome (refusal_in result.came) (WhyUnopened
-        (R.flows reactions.now) shape.count shape.digest (λ file. content_of file (V.history site))) }
+        (R.flows reactions.now) shape.count shape.digest (λ file. content_of file (V.history site))
+        (map request_of requests.items)) }
+    ensures synced { IfSome (refusal_in result.came)
+        (OnlySynced shape.count (V.history site) (V.history result.site)) }
+    ensures clean { V.tells result.site → AreRefused (R.flows reactions.now) shape.count shape.digest
+        (λ file. content_of file (V.history site)) (map request_of requests.items)
+        → AreSyncs shape.count (V.history site) (V.history result.site) × (result.trail ≡ []) }
+    ensures fault { result.came ≡ Came.Refused (OpenError.Refused RecoverError.SiteFault)
+        → HasRisen (V.disk_faults site) (V.disk_faults result.site) }
     ensures served { refusal_in result.came ≡ None → IsServed (R.flows reactions.now) shape.count
         shape.digest shape.segment shape.pace.steps (map request_of requests.items)
         (C.latest result.clock) (V.tells result.site) (V.history site) (V.history result.site)
         result.trail result.came result.port }
     ensures latest { C.latest clock ≤ C.latest result.clock }
+    ensures ticks { C.clock_faults clock ≤ C.clock_faults result.clock }
+    ensures later { (V.disk_faults site ≤ V.disk_faults result.site)
+        × (V.say_faults site ≤ V.say_faults result.site) }
     ensures halts { (halt : HaltedFor) → result.came ≡ Came.Halted halt
         → RisesFor (V.disk_faults site) (V.say_faults site)
         (V.disk_faults result.site) (V.say_faults result.site) halt }
@@ -340,7 +354,14 @@ fn serve_since<V: Site, S: Since, R: Reactions, C: Clock, A: Activities>(
     ensures past { (halt : HaltedFor) → result.came ≡ Came.Halted halt → IsPast shape.segment halt }
 {
     let mut site = site;
-    match open_logs(alloc, &mut site, reactions, shape.digest, shape.count) {
+    match open_logs(
+        alloc,
+        &mut site,
+        reactions,
+        &requests,
+        shape.digest,
+        shape.count,
+    ) {
         Ok(begun) => {
             let placed = placed_by::<Brand, V, R>(
                 &site,
@@ -380,12 +401,23 @@ pub fn serve<V: Site, R: Reactions, C: Clock, A: Activities>(
         → OpensOnly (R.flows reactions.now) shape.count shape.digest (V.history site)
         (V.history result.site) }
     ensures refused { V.tells result.site → IfSome (refusal_in result.came) (WhyUnopened
-        (R.flows reactions.now) shape.count shape.digest (λ file. content_of file (V.history site))) }
+        (R.flows reactions.now) shape.count shape.digest (λ file. content_of file (V.history site))
+        (map request_of requests.items)) }
+    ensures synced { IfSome (refusal_in result.came)
+        (OnlySynced shape.count (V.history site) (V.history result.site)) }
+    ensures clean { V.tells result.site → AreRefused (R.flows reactions.now) shape.count shape.digest
+        (λ file. content_of file (V.history site)) (map request_of requests.items)
+        → AreSyncs shape.count (V.history site) (V.history result.site) × (result.trail ≡ []) }
+    ensures fault { result.came ≡ Came.Refused (OpenError.Refused RecoverError.SiteFault)
+        → HasRisen (V.disk_faults site) (V.disk_faults result.site) }
     ensures served { refusal_in result.came ≡ None → IsServed (R.flows reactions.now) shape.count
         shape.digest shape.segment shape.pace.steps (map request_of requests.items)
         (C.latest result.clock) (V.tells result.site) (V.history site) (V.history result.site)
         result.trail result.came result.port }
     ensures latest { C.latest clock ≤ C.latest result.clock }
+    ensures ticks { C.clock_faults clock ≤ C.clock_faults result.clock }
+    ensures later { (V.disk_faults site ≤ V.disk_faults result.site)
+        × (V.say_faults site ≤ V.say_faults result.site) }
     ensures halts { (halt : HaltedFor) → result.came ≡ Came.Halted halt
         → RisesFor (V.disk_faults site) (V.say_faults site)
         (V.disk_faults result.site) (V.say_faults result.site) halt }

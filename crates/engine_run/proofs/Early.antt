@@ -51,7 +51,7 @@ room_left found place is below = omega arith
 
 -- ---- the input files
 
-pub input_answers : (files : ℕ → List ℕ) (cause : Cause) → IsInputCause cause → RefusesInput (refusal_of files) cause → CauseHolds files cause
+pub input_answers : (files : ℕ → List ℕ) (cause : Cause) → IsInputCause cause → RefusesInput (refusal_of 1 1 files) cause → CauseHolds files cause
 input_answers files Done is refuses = absurd is
 input_answers files Usage is refuses = absurd is
 input_answers files (BadFlows fault) is refuses = refuses

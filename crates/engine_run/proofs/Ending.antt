@@ -9,7 +9,9 @@ use Rattle.commit_log.proofs.Written.{reads_closed}
 use Rattle.dura_model.specs.Partition.{Partition, enter}
 use Rattle.dura_value.specs.Items.{Entry}
 use Rattle.engine_run.specs.Ends.{WouldFill}
-use Rattle.engine_run.specs.Rounds.{AreAllSaid, IsFirstUnsaid, IsAtRest, RoundsEnd, IsRestCause, IsLateCause, IsWanting, cause_of_stop}
+use Rattle.client_order.specs.Unsaid.{AreAllSaid, IsFirstUnsaid}
+use Rattle.cluster_run.specs.Causes.{IsRestCause}
+use Rattle.engine_run.specs.Rounds.{IsAtRest, RoundsEnd, IsLateCause, IsWanting, cause_of_stop}
 use Rattle.engine_run.specs.Asked.{IsRequest}
 use Rattle.engine_run.specs.Prepared.{IsEarlyCause}
 use Rattle.engine_run.proofs.FileAsked.{due_taken}

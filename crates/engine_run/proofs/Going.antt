@@ -6,7 +6,8 @@ use Rattle.dura_value.specs.Items.{Entry}
 use Rattle.engine_run.specs.Ends.{Terms, GoesInTime, SaysWhole, RunEndsAs}
 use Rattle.engine_run.specs.Rounds.{GoesOn}
 use Rattle.engine_run.specs.Headline.{StandsOrderly, RunsOn}
-use Rattle.engine_run.specs.Job.{Job, FilesKeep, AreGivenIn}
+use Rattle.cluster_run.specs.Asked.{Job}
+use Rattle.engine_run.specs.Job.{FilesKeep, AreGivenIn}
 use Rattle.engine_run.specs.Opened.{IsOpened, OpensOnly}
 use Rattle.engine_run.specs.Picks.{log_in_file, origin_with, rules_with}
 use Rattle.engine_run.specs.Served.{HasServed}

@@ -4,13 +4,11 @@ pub mod Early
 pub mod Ending
 pub mod FileAsked
 pub mod First
-pub mod Found
 pub mod Going
 pub mod LineAsked
 pub mod Lives
 pub mod OnlyOne
 pub mod Opens
-pub mod Ordered
 pub mod Picked
 pub mod Preparing
 pub mod Queues

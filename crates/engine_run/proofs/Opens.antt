@@ -5,7 +5,7 @@ use Rattle.commit_log.specs.Segment.{fresh as is_fresh, first_gate, reading_of}
 use Rattle.commit_log.specs.States.{IsFormatting}
 use Rattle.dura_model.specs.Partition.{fresh}
 use Rattle.dura_value.specs.Items.{Entry}
-use Rattle.engine_run.specs.Job.{Job}
+use Rattle.cluster_run.specs.Asked.{Job}
 use Rattle.engine_run.specs.Opened.{StandsBy, IsOpening}
 use Rattle.part_items.specs.Kept.{Kept, nothing, broken, keeps, kept_in}
 use Rattle.part_items.specs.Logs.{Refusal, Logs, log_in, no_log, damaged_at, base_place, or_else, unless, fault_of, same_base, late_base, first_fault, the_log, logs_of, logs_in, entries_in, alone_with}

@@ -8,7 +8,7 @@ use Rattle.commit_log.specs.Segment.{first_gate, ◌>>=◌}
 use Rattle.commit_log.specs.States.{IsFormatting}
 use Rattle.dura_value.specs.Items.{Entry}
 use Rattle.engine_run.specs.Alone.{both_synced}
-use Rattle.engine_run.specs.Job.{Job}
+use Rattle.cluster_run.specs.Asked.{Job}
 use Rattle.engine_run.specs.Opened.{IsOpening, IsOpened}
 use Rattle.engine_run.proofs.Opens.{other_nothing, both_nothing, opening_both, opening_new, second_kept}
 use Rattle.log_files.specs.Entries.{frames_in}

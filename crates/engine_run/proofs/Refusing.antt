@@ -1,15 +1,18 @@
 -- Why a run ends before it goes on.
 use Rattle.std.proofs.Common.{◌≡◌, ◌<◌, ◌^◌, ◌∙◌, inr, true, false, ℕ, List, Some, None, Ok, Err, sym, ap, subst, arith, inl}
 use Rattle.std.proofs.lemmas.List.Elements.{All-contains}
+use Rattle.client_order.specs.Clashes.{clashes}
 use Rattle.dura_model.specs.Partition.{Partition, fresh}
 use Rattle.dura_value.specs.Items.{Entry}
 use Rattle.engine_run.specs.Alone.{IsSpent, OnlySyncs}
-use Rattle.engine_run.specs.Causes.{AsksFor, IsReady, CauseHolds, IsRefusal, IsLogRefusal, AreRefused, Untouched}
+use Rattle.cluster_run.specs.Causes.{IsRefusal, cause_of_recovery}
+use Rattle.engine_run.specs.Causes.{AsksFor, IsReady, CauseHolds, IsLogRefusal, AreRefused, Untouched}
 use Rattle.engine_run.specs.Causes.AreRefused.{for_input, for_logs, for_spent, for_clash}
 use Rattle.engine_run.specs.Rounds.{IsLateCause}
-use Rattle.engine_run.specs.Job.{Job, FilesKeep}
-use Rattle.engine_run.specs.Kept.{clashes, IsClash, NoClash, RefusesKept}
-use Rattle.engine_run.specs.Opening.{cause_of_recovery, IsLogCauseOrSpent, RecoversAs, RefusesAs}
+use Rattle.cluster_run.specs.Asked.{Job}
+use Rattle.engine_run.specs.Job.{FilesKeep}
+use Rattle.engine_run.specs.Kept.{taken_alone, IsClash, NoClash, RefusesKept}
+use Rattle.engine_run.specs.Opening.{IsLogCauseOrSpent, RecoversAs, RefusesAs}
 use Rattle.engine_run.proofs.Asked.{same_job, same_state}
 use Rattle.flow_syntax.specs.Syntax.{Flows}
 use Rattle.part_items.specs.Logs.{Logs, Refusal, refused, logs_in, entries_in, alone_with}
@@ -192,7 +195,7 @@ module _ (digest : ℕ) (files : ℕ → List ℕ) (entries : List Entry) (kept 
       omega (arith, incarnation, spent.old, young)
 
 none_clash : (state : Partition) (requests : List Request) (name : List ℕ) (number : ℕ) → NoClash state requests → IsClash state requests name number → ⊥
-none_clash state requests name number none clash = let wrong : true ≡ false = sym clash.there.clashes ∙ All-contains (λ r. clashes state r ≡ false) requests clash.there.request none clash.there.asked in cc wrong
+none_clash state requests name number none clash = let wrong : true ≡ false = sym clash.there.clashes ∙ All-contains (λ r. clashes (taken_alone state) r ≡ false) requests clash.there.request none clash.there.asked in cc wrong
 
 pub ready : (files : ℕ → List ℕ) (job : Job) (entries : List Entry) (state : Partition) → AsksFor files job → FilesKeep job files entries state → NoClash state job.requests → next_incarnation entries < 2 ^ 62 → IsReady files
 ready files job entries state asks keeps no_clash young = record { job = job; asks = asks; entries = entries; state = state; keeps = keeps; no_clash = no_clash; young = young }

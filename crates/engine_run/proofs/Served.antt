@@ -17,7 +17,8 @@ use Rattle.dura_value.specs.Messages.{Message}
 use Rattle.dura_value.proofs.Ids.{same_bytes, bytes_self}
 use Rattle.engine_run.specs.Asked.{IsRequest, IsTaken}
 use Rattle.engine_run.specs.Ends.{next_untold, AreAllTold, IsFirstUntold, IsToldOut, RunEndsAs}
-use Rattle.engine_run.specs.Rounds.{AreAllSaid, IsFirstUnsaid, IsAtRest, IsUnfinished, RoundsEnd}
+use Rattle.client_order.specs.Unsaid.{AreAllSaid, IsFirstUnsaid}
+use Rattle.engine_run.specs.Rounds.{IsAtRest, IsUnfinished, RoundsEnd}
 use Rattle.engine_run.specs.Served.{has_answer, IsServed, first_open, IsFirstOpen, Awaits, IsLeftAt, HasServed}
 use Rattle.engine_run.proofs.Asking.{told_answered, get_front, get_here, get_within, front_all, asks_in_vain}
 use Rattle.engine_run.proofs.FileAsked.{says_whose}

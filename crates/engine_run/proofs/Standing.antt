@@ -7,7 +7,8 @@ use Rattle.log_items.specs.Streams.{Outbox}
 use Rattle.dura_model.specs.Placed.{Belongs, AreShown, IsReader}
 use Rattle.dura_model.proofs.Kept.{fresh_shown}
 use Rattle.dura_value.specs.Items.{Entry}
-use Rattle.engine_run.specs.Job.{Job, AreGivenIn}
+use Rattle.cluster_run.specs.Asked.{Job}
+use Rattle.engine_run.specs.Job.{AreGivenIn}
 use Rattle.engine_run.specs.Opened.{IsOpened}
 use Rattle.engine_run.specs.Picks.{log_in_file, origin_with, rules_with}
 use Rattle.engine_run.proofs.Picked.{entries_come, picked_is}

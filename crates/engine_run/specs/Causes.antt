@@ -4,7 +4,9 @@ use Rattle.command_words.specs.declared.words.Call.{Call}
 use Rattle.command_words.specs.declared.words.Call.TheVariants.{Run, Show}
 use Rattle.dura_model.specs.Partition.{Partition}
 use Rattle.dura_value.specs.Items.{Entry}
-use Rattle.engine_run.specs.Job.{Job, FilesKeep}
+use Rattle.cluster_run.specs.Asked.{Asks, Job}
+use Rattle.cluster_run.specs.Causes.{IsRefusal}
+use Rattle.engine_run.specs.Job.{FilesKeep}
 use Rattle.engine_run.specs.Kept.{IsClash, NoClash}
 use Rattle.hub_store.specs.Trail.{Settled}
 use Rattle.dura_model.specs.Entries.{next_incarnation}
@@ -15,13 +17,12 @@ use Rattle.recover_core.specs.declared.error.RecoverError.{RecoverError}
 use Rattle.recover_core.specs.declared.error.RecoverError.TheVariants as errors
 use Rattle.run_causes.specs.declared.cause.Cause.{Cause}
 use Rattle.run_causes.specs.declared.cause.Cause.TheVariants.{Done, Usage, BadFlows, BadRequests, Clash, BadPlan, TooLong, Waiting, Long, SiteFault, SayFault, ClockFault, Damaged, Illegal, Unclosed, OtherShape, OtherFlows, Memory, Full, Spent}
-use Rattle.run_inputs.specs.Input.{HasInput}
 use Rattle.run_inputs.specs.Refusal.{refusal_of}
 use Rattle.site_model.specs.History.{Step}
 
--- what the input files ask for
+-- what the input files ask of one partition and one node
 abbrev pub AsksFor : (ℕ → List ℕ) → Job → Type 0
-AsksFor files job = HasInput files job.flows job.digest job.requests
+AsksFor files job = Asks 1 1 files job
 
 -- The files are accepted: what the logs kept made a state in which nothing clashes, and a further incarnation may begin.
 pub record IsReady (files : ℕ → List ℕ) : Type 0 where
@@ -55,11 +56,11 @@ CauseHolds files SayFault = IsReady files
 CauseHolds files ClockFault = IsReady files
 CauseHolds files SiteFault = Unit {0}
 CauseHolds files Memory = Unit {0}
-CauseHolds files (BadFlows fault) = refusal_of files ≡ Some (BadFlows fault)
-CauseHolds files (BadRequests line) = refusal_of files ≡ Some (BadRequests line)
-CauseHolds files (BadPlan place) = refusal_of files ≡ Some (BadPlan place)
-CauseHolds files (TooLong file) = refusal_of files ≡ Some (TooLong file)
-CauseHolds files (Clash client number) = (refusal_of files ≡ Some (Clash client number)) ⊎ ClashesWithKept files client number
+CauseHolds files (BadFlows fault) = refusal_of 1 1 files ≡ Some (BadFlows fault)
+CauseHolds files (BadRequests line) = refusal_of 1 1 files ≡ Some (BadRequests line)
+CauseHolds files (BadPlan place) = refusal_of 1 1 files ≡ Some (BadPlan place)
+CauseHolds files (TooLong file) = refusal_of 1 1 files ≡ Some (TooLong file)
+CauseHolds files (Clash client number) = (refusal_of 1 1 files ≡ Some (Clash client number)) ⊎ ClashesWithKept files client number
 CauseHolds files (Damaged file offset) = RefusesLogs files (errors.Damaged file offset)
 CauseHolds files (OtherShape found asked) = RefusesLogs files (errors.OtherShape found asked)
 CauseHolds files (OtherFlows found given) = RefusesLogs files (errors.OtherFlows found given)
@@ -67,20 +68,6 @@ CauseHolds files (Illegal partition position) = RefusesLogs files (errors.Illega
 CauseHolds files (Spent partition number) = AreSpent files partition number ⊎ (IsReady files × (partition ≡ 0) × (2 ^ 62 ≤ number))
 CauseHolds files (Unclosed partition position src seq) = RefusesLogs files (errors.Unclosed partition position src seq)
 CauseHolds files Usage = ⊥
-
--- why files are refused
-abbrev pub IsRefusal : Cause → Type 0
-IsRefusal (BadFlows fault) = Unit {0}
-IsRefusal (BadRequests line) = Unit {0}
-IsRefusal (BadPlan place) = Unit {0}
-IsRefusal (TooLong file) = Unit {0}
-IsRefusal (Clash client number) = Unit {0}
-IsRefusal (Damaged file offset) = Unit {0}
-IsRefusal (OtherShape found asked) = Unit {0}
-IsRefusal (OtherFlows found given) = Unit {0}
-IsRefusal (Illegal partition position) = Unit {0}
-IsRefusal (Unclosed partition position src seq) = Unit {0}
-IsRefusal other = ⊥
 
 -- why logs are refused, and not for a fault or for want of memory
 abbrev pub IsLogRefusal : RecoverError → Type 0
@@ -90,7 +77,7 @@ IsLogRefusal other = Unit {0}
 
 -- The files are to be refused: the input files, or the logs, or they leave no incarnation, or a request clashes with what was taken.
 pub data AreRefused (files : ℕ → List ℕ) : Type 0 where
-  for_input : (cause : Cause) → refusal_of files ≡ Some cause → AreRefused files
+  for_input : (cause : Cause) → refusal_of 1 1 files ≡ Some cause → AreRefused files
   for_logs : (error : RecoverError) → IsLogRefusal error → RefusesLogs files error → AreRefused files
   for_spent : (partition number : ℕ) → AreSpent files partition number → AreRefused files
   for_clash : (client : List ℕ) (number : ℕ) → ClashesWithKept files client number → AreRefused files

@@ -11,7 +11,7 @@ use Rattle.dura_value.specs.Ids.{client}
 use Rattle.dura_value.specs.Items.{Entry}
 use Rattle.dura_value.specs.declared.data.Value.{Value}
 use Rattle.dura_value.specs.declared.outcome.Outcome.{Outcome}
-use Rattle.engine_run.specs.Order.{no_later}
+use Rattle.client_order.specs.Order.{no_later}
 use Rattle.hub_store.specs.Moments.{StandsWith}
 use Rattle.hub_store.specs.Origin.{Origin}
 use Rattle.hub_store.specs.Trail.{Settled, Said, of_part}

@@ -7,7 +7,8 @@ use Rattle.dura_model.specs.World.{World}
 use Rattle.dura_value.specs.Ids.{Id}
 use Rattle.dura_value.specs.Items.{Entry}
 use Rattle.engine_run.specs.Ends.{Terms, GoesInTime, SaysWhole, RunEndsAs}
-use Rattle.engine_run.specs.Job.{Job, FilesKeep, AreGivenIn}
+use Rattle.cluster_run.specs.Asked.{Job}
+use Rattle.engine_run.specs.Job.{FilesKeep, AreGivenIn}
 use Rattle.engine_run.specs.Picks.{rules_with}
 use Rattle.engine_run.specs.Opened.{IsOpening}
 use Rattle.engine_run.specs.Prepared.{IsEarlyCause}

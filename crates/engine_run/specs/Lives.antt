@@ -5,7 +5,8 @@ use Rattle.dura_model.specs.Partition.{Partition}
 use Rattle.dura_value.specs.Items.{Entry}
 use Rattle.engine_run.specs.Ends.{Terms}
 use Rattle.engine_run.specs.Headline.{IsOrderly, Headline}
-use Rattle.engine_run.specs.Job.{Job, FilesKeep, AreGivenIn}
+use Rattle.cluster_run.specs.Asked.{Job}
+use Rattle.engine_run.specs.Job.{FilesKeep, AreGivenIn}
 use Rattle.engine_run.specs.Picks.{rules_with}
 use Rattle.flow_syntax.specs.Syntax.{Flows}
 use Rattle.hub_store.specs.Origin.{Origin}

@@ -5,7 +5,8 @@ use Rattle.commit_log.specs.Outcomes.{RestsAs}
 use Rattle.commit_log.specs.Segment.{first_gate}
 use Rattle.dura_model.specs.Partition.{Partition}
 use Rattle.dura_value.specs.Items.{Entry}
-use Rattle.engine_run.specs.Job.{Job, FilesKeep, AreGivenIn}
+use Rattle.cluster_run.specs.Asked.{Job}
+use Rattle.engine_run.specs.Job.{FilesKeep, AreGivenIn}
 use Rattle.part_items.specs.Kept.{nothing, kept_in, first_of, decoded}
 use Rattle.part_items.specs.Logs.{first_log, second_log, logs_in, entries_in, alone_with}
 use Rattle.dura_model.specs.Entries.{labels_in}

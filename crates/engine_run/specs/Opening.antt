@@ -1,5 +1,6 @@
 -- What recovery answers, as a cause.
 use Rattle.std.specs.Prelude.{◌≡◌, ℕ, List, Result, Ok, Err}
+use Rattle.cluster_run.specs.Causes.{cause_of_recovery}
 use Rattle.engine_run.specs.Alone.{IsRecovered, IsSpent}
 use Rattle.engine_run.specs.declared.opening.Recovered.{Recovered}
 use Rattle.flow_syntax.specs.Syntax.{Flows}
@@ -9,15 +10,6 @@ use Rattle.recover_core.specs.declared.error.RecoverError.{RecoverError}
 use Rattle.recover_core.specs.declared.error.RecoverError.TheVariants as errors
 use Rattle.run_causes.specs.declared.cause.Cause.{Cause}
 use Rattle.run_causes.specs.declared.cause.Cause.TheVariants.{SiteFault, Damaged, Illegal, Unclosed, OtherShape, OtherFlows, Memory, Spent}
-
-abbrev pub cause_of_recovery : RecoverError → Cause
-cause_of_recovery (errors.Damaged file offset) = Damaged file offset
-cause_of_recovery (errors.OtherShape found asked) = OtherShape found asked
-cause_of_recovery (errors.OtherFlows found given) = OtherFlows found given
-cause_of_recovery (errors.Illegal partition position) = Illegal partition position
-cause_of_recovery (errors.Unclosed partition position src seq) = Unclosed partition position src seq
-cause_of_recovery errors.SiteFault = SiteFault
-cause_of_recovery errors.Memory = Memory
 
 -- the logs of so many partitions are refused
 pub record RefusesAs (flows : Flows) (count digest : ℕ) (files : ℕ → List ℕ) (cause : Cause) : Type 0 where

@@ -3,7 +3,7 @@ use Rattle.std.specs.Prelude.{ℕ, ◌==◌, ◌&&◌, List, [], length, replica
 use Rattle.commit_log.specs.Segment.{Reading, fresh, damaged, segment, first_gate, reading_of}
 use Rattle.dura_model.specs.Partition.{Partition}
 use Rattle.dura_value.specs.Items.{Entry}
-use Rattle.engine_run.specs.Job.{Job}
+use Rattle.cluster_run.specs.Asked.{Job}
 use Rattle.hub_store.specs.Frames.{goes_on}
 use Rattle.hub_store.specs.Origin.{Log, Origin}
 use Rattle.part_items.specs.Kept.{first_of, decoded}

@@ -2,7 +2,8 @@
 use Rattle.std.specs.Prelude.{◌≡◌, ℕ, ◌≤◌, ◌<◌, ◌^◌, List, length, map}
 use Rattle.dura_value.specs.Items.{Entry}
 use Rattle.log_items.specs.Entries.{incarnations_in}
-use Rattle.engine_run.specs.Job.{Job, FilesKeep}
+use Rattle.cluster_run.specs.Asked.{Job}
+use Rattle.engine_run.specs.Job.{FilesKeep}
 use Rattle.engine_run.specs.Opened.{IsOpened}
 use Rattle.engine_run.specs.declared.prepared.Prepared.{Prepared}
 use Rattle.flow_syntax.specs.Views.{flows_of}

@@ -2,6 +2,7 @@
 -- (`Served`).
 use Rattle.std.specs.Prelude.{◌≡◌, ◌≤◌, ◌<◌, ◌^◌, ℕ, true, List, [], length, Some, None, Ok}
 use Rattle.std.specs.List.{All}
+use Rattle.client_order.specs.Unsaid.{AreAllSaid, IsFirstUnsaid}
 use Rattle.client_port.specs.Clients.{clients_of}
 use Rattle.client_port.specs.Ports.{Queue, due_of}
 use Rattle.command_words.specs.declared.words.RunOptions.{RunOptions}
@@ -11,7 +12,6 @@ use Rattle.dura_model.specs.Partition.{Partition, enter}
 use Rattle.dura_value.specs.Items.{Entry}
 use Rattle.engine_run.specs.Asked.{IsRequest, IsTaken}
 use Rattle.engine_run.specs.Ends.{Terms, GoesInTime, WouldFill, IsPositionSpent, SaysWhole}
-use Rattle.engine_run.specs.Order.{no_later}
 use Rattle.hub_store.specs.Moments.{StandsWith, AtEveryMoment}
 use Rattle.hub_store.specs.Origin.{Origin}
 use Rattle.hub_store.specs.Short.{IsShort}
@@ -27,21 +27,6 @@ use Rattle.run_causes.specs.declared.cause.Cause.TheVariants.{Done, Waiting, Lon
 use Rattle.run_rules.specs.Rules.{Rules}
 use Rattle.site_model.specs.History.{Step, content_of}
 use Rattle.site_model.specs.Moments.{Always}
-
--- each client's requests were answered, and the answers said
-abbrev pub AreAllSaid : List Queue → (clients : List (List ℕ)) → Type 0
-AreAllSaid queues clients = All (λ name. due_of name queues ≡ None) clients
-
--- this is the number of the client's next request, whose answer wasn't said
-pub record IsUnsaid (queues : List Queue) (client : List ℕ) (number : ℕ) : Type 0 where
-  pub request : Request
-  pub due : due_of client queues ≡ Some request
-  pub number_is : number ≡ request.number
-
--- and of these clients' next requests it comes first
-pub record IsFirstUnsaid (queues : List Queue) (clients : List (List ℕ)) (client : List ℕ) (number : ℕ) : Type 0 where
-  pub unsaid : IsUnsaid queues client number
-  pub first : All (λ name. (r : Request) → due_of name queues ≡ Some r → no_later (client, number) (name, r.number) ≡ true) clients
 
 module _ (MayFollow : List Settled → List Said → ℕ → List Entry → Type 0) (MaySay : List Settled → List Said → Said → List ℕ → Type 0) (rules : Rules) (latest : ℕ) (o : Origin) where
   -- Once this was settled the world is quiet but for requests, what is due of each client was taken, and nothing is possible any more;
@@ -110,12 +95,6 @@ cause_of_stop stops.SiteFault = SiteFault
 cause_of_stop stops.SayFault = SayFault
 cause_of_stop stops.ClockFault = ClockFault
 cause_of_stop stops.Memory = Memory
-
--- why a run may end where nothing is possible any more
-abbrev pub IsRestCause : List Queue → (clients : List (List ℕ)) → Cause → Type 0
-IsRestCause queues clients Done = AreAllSaid queues clients
-IsRestCause queues clients (Waiting client number) = IsFirstUnsaid queues clients client number
-IsRestCause queues clients other = ⊥
 
 -- why a run may end that goes on
 abbrev pub IsLateCause : Cause → Type 0

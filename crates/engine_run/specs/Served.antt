@@ -6,7 +6,7 @@ use Rattle.dura_model.specs.Legal.{Quiet}
 use Rattle.dura_model.specs.Partition.{Partition}
 use Rattle.dura_model.specs.World.{World}
 use Rattle.dura_value.specs.Ids.{client}
-use Rattle.engine_run.specs.Order.{no_later}
+use Rattle.client_order.specs.Order.{no_later}
 use Rattle.hub_store.specs.Trail.{Settled, of_part}
 use Rattle.dura_model.specs.Entries.{placed, shown_by}
 use Rattle.request_reader.specs.Line.{Request}

@@ -2,19 +2,21 @@
 
 ghost use Rattle.std.specs.Prelude.{◌≡◌, ◌≢◌, ◌⊎◌, ◌≤◌, ◌<◌, ◌^◌, [], None};
 ghost use Rattle.command_words.specs.Command.{call_in};
-ghost use Rattle.engine_run.specs.Causes.{AsksFor, CauseHolds, AreRefused, IsRefusal, LeavesAll, Untouched};
+ghost use Rattle.cluster_run.specs.Causes.{IsRefusal};
+ghost use Rattle.engine_run.specs.Causes.{AsksFor, CauseHolds, AreRefused, LeavesAll, Untouched};
 ghost use Rattle.engine_run.specs.Ends.{terms_of};
 ghost use Rattle.engine_run.specs.Headline.{Headline};
-ghost use Rattle.engine_run.specs.Job.{Job};
-ghost use Rattle.engine_run.specs.Promises.{faults_of, FaultsRise, Promises};
+ghost use Rattle.cluster_run.specs.Asked.{Job};
+ghost use Rattle.cluster_run.specs.Faults.{faults_of, FaultsRise};
+ghost use Rattle.engine_run.specs.Promises.{Promises, is_alone};
 ghost use Rattle.run_causes.specs.Causes.{status_of};
 ghost use Rattle.site_model.specs.History.{content_of};
 
-use crate::ended::{Ended, end_with};
 use crate::prepared::prepare;
 use crate::running::go_named;
 use crate::showing::show;
 use activity_table::Activities;
+use cluster_run::{Ended, end_with, run_cluster};
 use command_words::{Call, RunOptions, WordsError, read_words};
 use dura_value::Text;
 use hub_store::Trail;
@@ -25,7 +27,14 @@ use std::marker::Brand;
 use std::sync::Wait;
 use std::thread::Threads;
 
-/// Runs the requests of the site's files.
+/// Whether a run is of one partition on one node, without a seed.
+fn is_alone(options: &RunOptions) -> bool
+    ensures { result ≡ is_alone options.now }
+{
+    options.partitions == 1 && options.nodes == 1 && options.seed == 0
+}
+
+/// Runs the requests of the site's files over one partition.
 fn run_requests<V: Site, C: Clock, A: Activities>(
     alloc: Global,
     mut site: V,
@@ -92,7 +101,13 @@ pub fn run_alone<V: Site, C: Clock, A: Activities>(
         (C.clock_faults result.clock)) }
 {
     match read_words(alloc, words) {
-        Ok(Call::Run(options)) => run_requests(alloc, site, clock, acts, options),
+        Ok(Call::Run(options)) => {
+            if is_alone(&options) {
+                run_requests(alloc, site, clock, acts, options)
+            } else {
+                run_cluster(alloc, site, clock, acts, options)
+            }
+        }
         Ok(Call::Show(partitions)) => {
             let cause = show(alloc, &mut site, partitions);
             end_with(cause, Trail::none(alloc), site, clock)
@@ -104,9 +119,9 @@ pub fn run_alone<V: Site, C: Clock, A: Activities>(
 
 /// Runs the requests that the site's files hold, or shows what is there, as the words say.
 ///
-/// `run` reads files 0, 1 and 2 (the flows, the requests and the plan), recovers what the logs keep, commits each step before the
-/// next, and says each answer once what it answers is committed, until nothing is possible any more or as many labels were
-/// settled as may be. `show` reads file 0, recovers, and says a line for each entity and each instance. `rt` may start and join
+/// `run` reads files 0, 1 and 2 (the flows, the requests and the plan), recovers what the logs keep, and goes on over as many partitions and
+/// nodes as the words say, by the plan: it says each answer once what it answers is committed, until nothing is possible any more
+/// or as many labels were settled as may be. One partition on one node without a seed commits each step before the next. `show` reads file 0, recovers, and says a line for each entity and each instance. `rt` may start and join
 /// threads; until there are any it isn't used.
 ///
 /// A refusal is the first of these: the words, then files 0, 1 and 2 in this order, each one's length before its bytes, then the

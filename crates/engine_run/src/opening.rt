@@ -4,7 +4,7 @@ ghost use Rattle.std.specs.Prelude.{◌≡◌, ◌≤◌, ◌<◌, ℕ, List, []
 ghost use Rattle.commit_log.specs.Outcomes.{RestsAs};
 ghost use Rattle.commit_log.specs.States.{IsFormatting};
 ghost use Rattle.engine_run.specs.Alone.{CanBegin, OnlySyncs, both_synced};
-ghost use Rattle.engine_run.specs.Opening.{cause_of_recovery, IsLogCause, IsLogCauseOrSpent, RecoversAs, RefusesAs};
+ghost use Rattle.engine_run.specs.Opening.{IsLogCause, IsLogCauseOrSpent, RecoversAs, RefusesAs};
 ghost use Rattle.flow_syntax.specs.Syntax.{Flows as PlainFlows};
 ghost use Rattle.flow_syntax.specs.Views.{flows_of};
 ghost use Rattle.log_files.specs.Fronts.{AreSyncs, synced_to};
@@ -15,12 +15,13 @@ ghost use Rattle.site_model.specs.Calls.{HasRisen};
 ghost use Rattle.site_model.specs.History.{changes_of, content_of, IsKept, Step};
 ghost use Rattle.site_model.specs.Moments.{LeavesOnly};
 
+use cluster_run::cause_of_recovery;
 use commit_gate::Past;
 use commit_log::{Header, Resting};
 use flow_steps::Machines;
 use flow_syntax::Flows;
 use part_steps::PartState;
-use recover_core::{Life, Opened, RecoverError, recover};
+use recover_core::{Life, Opened, recover};
 use run_causes::Cause;
 use site_model::Site;
 use std::alloc::Global;
@@ -42,37 +43,6 @@ pub(crate) struct Recovered {
     pub incarnation: u64,
     /// The incarnation of each entry.
     pub past: Past,
-}
-
-/// Why nothing was recovered.
-fn cause_of(error: RecoverError) -> Cause
-    ensures { result ≡ cause_of_recovery error }
-{
-    match error {
-        RecoverError::Damaged { file, offset } => Cause::Damaged { file, offset },
-        RecoverError::OtherShape { found, asked } => Cause::OtherShape { found, asked },
-        RecoverError::OtherFlows { found, given } => Cause::OtherFlows { found, given },
-        RecoverError::Illegal {
-            partition,
-            position,
-        } => Cause::Illegal {
-            partition,
-            position,
-        },
-        RecoverError::Unclosed {
-            partition,
-            position,
-            src,
-            seq,
-        } => Cause::Unclosed {
-            partition,
-            position,
-            src,
-            seq,
-        },
-        RecoverError::SiteFault => Cause::SiteFault,
-        RecoverError::Memory => Cause::Memory,
-    }
 }
 
 /// What the log files of so many partitions stand for.
@@ -105,7 +75,7 @@ pub(crate) fn recover_all<V: Site>(
     let machines = Machines::of(flows);
     match recover(alloc, site, &machines, digest, count) {
         Ok(opened) => Ok(opened),
-        Err(error) => Err(cause_of(error)),
+        Err(error) => Err(cause_of_recovery(error)),
     }
 }
 

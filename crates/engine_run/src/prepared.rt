@@ -3,7 +3,7 @@
 ghost use Rattle.std.specs.Prelude.{◌≡◌, ◌≤◌, Err, IfOk, IfErr};
 ghost use Rattle.engine_run.specs.Alone.{OnlySyncs};
 ghost use Rattle.engine_run.specs.Causes.{AsksFor, CauseHolds, AreRefused, Untouched};
-ghost use Rattle.engine_run.specs.Job.{Job};
+ghost use Rattle.cluster_run.specs.Asked.{Job};
 ghost use Rattle.engine_run.specs.Kept.{NoClash};
 ghost use Rattle.engine_run.specs.Opened.{OpensOnly};
 ghost use Rattle.engine_run.specs.Prepared.{job_of, CanGoOn, IsPrepared, IsEarlyCause};
@@ -66,7 +66,11 @@ pub(crate) fn prepare<V: Site>(alloc: Global, site: &mut V) -> Result<Prepared, 
     ensures later { V.disk_faults site.old ≤ V.disk_faults site.new }
     ensures say_faults { V.say_faults site.new ≡ V.say_faults site.old }
 {
-    let Input { file, requests } = read_input(alloc, site)?;
+    let Input {
+        file,
+        requests,
+        plan: _,
+    } = read_input(alloc, site, 1, 1)?;
     let FlowFile { flows, digest } = file;
     let Recovered {
         state,

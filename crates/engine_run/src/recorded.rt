@@ -3,7 +3,8 @@
 ghost use Rattle.std.specs.Prelude.{◌≡◌, ◌⊎◌, ◌<◌, [], None};
 ghost use Rattle.command_words.specs.Command.{call_in};
 ghost use Rattle.engine_run.specs.Ends.{terms_of};
-ghost use Rattle.engine_run.specs.Promises.{faults_of, FaultsRise, Promises};
+ghost use Rattle.cluster_run.specs.Faults.{faults_of, FaultsRise};
+ghost use Rattle.engine_run.specs.Promises.{Promises};
 ghost use Rattle.engine_run.specs.Recorded.{steps_before, steps_after};
 ghost use Rattle.run_causes.specs.Causes.{status_of};
 ghost use Rattle.site_calls.specs.Events.{Tells};
@@ -11,8 +12,8 @@ ghost use Rattle.site_calls.specs.Failures.{disk_failures, say_failures};
 ghost use Rattle.site_calls.specs.Site.{calls_of, disk_faults_of, say_faults_of};
 
 use crate::call::run;
-use crate::ended::Ended;
 use activity_table::Activities;
+use cluster_run::Ended;
 use dura_value::Text;
 use run_causes::Cause;
 use site_calls::{CalledSite, Calls, Start};

@@ -6,10 +6,12 @@ ghost use Rattle.client_port.specs.Clients.{clients_of};
 ghost use Rattle.client_port.specs.Ports.{queues_of};
 ghost use Rattle.engine_run.specs.Asked.{IsRequest};
 ghost use Rattle.engine_run.specs.Ends.{terms_of};
-ghost use Rattle.engine_run.specs.Rounds.{AreAllSaid, IsFirstUnsaid, RoundsEnd, GoesOn, Stays, IsLateCause, IsRestCause, cause_of_stop};
-ghost use Rattle.engine_run.specs.Order.{no_later};
+ghost use Rattle.client_order.specs.Unsaid.{AreAllSaid, IsFirstUnsaid};
+ghost use Rattle.cluster_run.specs.Causes.{IsRestCause};
+ghost use Rattle.engine_run.specs.Rounds.{RoundsEnd, GoesOn, Stays, IsLateCause, cause_of_stop};
+ghost use Rattle.client_order.specs.Order.{no_later};
 ghost use Rattle.engine_run.specs.Picks.{origin_with, rules_with};
-ghost use Rattle.engine_run.specs.Promises.{faults_of, FaultsRise};
+ghost use Rattle.cluster_run.specs.Faults.{faults_of, FaultsRise};
 ghost use Rattle.engine_run.specs.Prepared.{job_of, CanGoOn};
 ghost use Rattle.engine_run.specs.Ledgers.{with_entries, readers};
 ghost use Rattle.flow_syntax.specs.Views.{flows_of};
@@ -27,12 +29,11 @@ ghost use Rattle.run_causes.specs.Causes.{status_of};
 ghost use Rattle.run_laws.specs.Begins.{may_follow, may_say};
 
 use crate::beginning::open_store;
-use crate::ended::{Ended, end_with};
 use crate::named::{Going, Named};
-use crate::order::comes_no_later;
 use crate::prepared::Prepared;
 use activity_table::Activities;
 use client_port::Port;
+use cluster_run::{Ended, end_with, rest_cause};
 use command_words::RunOptions;
 use dura_value::{Name, Request};
 use flow_steps::Machines;
@@ -62,47 +63,6 @@ fn cause_of(stop: Stop) -> Cause
         Stop::SayFault => Cause::SayFault,
         Stop::ClockFault => Cause::ClockFault,
         Stop::Memory => Cause::Memory,
-    }
-}
-
-/// Of what was found first and a client's request the one that comes first.
-fn earlier<'a>(first: Option<(&'a Name, u32)>, client: &'a Name, number: u32) -> (&'a Name, u32)
-    ensures one { ((result.0.now ≡ client.now) × (result.1 ≡ number))
-        ⊎ IsSomeAnd first.entry (λ one. (result.0.now ≡ one.0.now) × (result.1 ≡ one.1)) }
-    ensures new { no_later (result.0.now, result.1) (client.now, number) ≡ true }
-    ensures old { IfSome first.entry (λ one. no_later (result.0.now, result.1) (one.0.now, one.1)
-        ≡ true) }
-{
-    match first {
-        Some((other, least)) if comes_no_later(other, least, client, number) => (other, least),
-        _ => (client, number),
-    }
-}
-
-/// The first request whose answer wasn't said, by its client's name: the client, and its number.
-fn first_unsaid<'a>(port: &Port, clients: &'a [Name]) -> Option<(&'a Name, u32)>
-    ensures none { IfNone result (AreAllSaid port.now clients.now) }
-    ensures some { IfSome result (λ one. IsFirstUnsaid port.now clients.now one.0.now one.1) }
-{
-    let mut first: Option<(&Name, u32)> = None;
-    for client in clients {
-        if let Some(request) = port.next_of(client) {
-            first = Some(earlier(first, client, request.number));
-        }
-    }
-    first
-}
-
-/// Why a run ends where nothing is possible any more.
-fn rest_cause(port: &Port, clients: &[Name]) -> Result<Cause, AllocError>
-    ensures { IfOk result (IsRestCause port.now clients.now) }
-{
-    match first_unsaid(port, clients) {
-        Some((client, number)) => Ok(Cause::Waiting {
-            client: client.clone()?,
-            number,
-        }),
-        None => Ok(Cause::Done),
     }
 }
 

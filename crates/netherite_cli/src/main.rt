@@ -20,9 +20,8 @@ use std::process::ExitCode;
 use std::sync::Wait;
 use std::thread::Threads;
 
-/// How many threads make files safe beside the main one. One partition, and a run has no more so far, has one file to
-/// make safe at a time.
-const HELPERS: u32 = 0;
+/// How many threads make files safe beside the main one. A run over partitions makes all their logs safe at once.
+const HELPERS: u32 = 7;
 
 // A call that was made, and how it ended.
 #[derive(Drop)]

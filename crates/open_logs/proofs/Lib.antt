@@ -7,4 +7,5 @@ pub mod KeptRun
 pub mod Lives
 pub mod Picked
 pub mod Pushed
+pub mod Refusing
 pub mod Syncs

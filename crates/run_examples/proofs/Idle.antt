@@ -4,7 +4,7 @@ use Rattle.commit_log.specs.Segment.{header_at}
 use Rattle.dura_model.specs.Partition.{fresh}
 use Rattle.engine_run.specs.Ends.{RunEndsAs}
 use Rattle.engine_run.specs.Headline.{RunsOn}
-use Rattle.engine_run.specs.Job.{Job}
+use Rattle.cluster_run.specs.Asked.{Job}
 use Rattle.engine_run.specs.Picks.{rules_with}
 use Rattle.engine_run.specs.Served.{HasServed}
 use Rattle.hub_store.specs.Examples.{one_log, log_written}

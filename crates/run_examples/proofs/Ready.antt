@@ -6,7 +6,7 @@ use Rattle.engine_run.specs.Causes.{AsksFor, AreRefused, IsReady}
 use Rattle.engine_run.specs.Causes.AreRefused.{for_input, for_logs, for_clash}
 use Rattle.engine_run.specs.Job.{FilesKeep}
 use Rattle.engine_run.specs.Kept.{clashes}
-use Rattle.engine_run.specs.Order.{no_later}
+use Rattle.client_order.specs.Order.{no_later}
 use Rattle.engine_run.proofs.Refusing.{not_refused}
 use Rattle.log_files.specs.Checked.{RefusesFirst}
 use Rattle.log_files.specs.declared.error.FilesError.TheVariants as unfit
@@ -46,7 +46,7 @@ ready = record {
 pub other_first : RefusesFirst 1 one_asked.digest (directory requests_bytes empty_log) (unfit.OtherFlows digest one_asked.digest)
 other_first = record { partition = 0; below = omega arith; lower = λ other below. absurd (omega (arith, below)); refused = (other_kept, refl) }
 
-pub refused_input : AreRefused (three_files (codes "{}") [] (codes "{}"))
+pub refused_input : AreRefused (three_files (codes "{}") [] (codes "[]"))
 refused_input = for_input (causes.BadPlan places.Whole) refusal_plan
 
 pub refused_logs : AreRefused (directory requests_bytes empty_log)

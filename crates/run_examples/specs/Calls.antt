@@ -1,6 +1,7 @@
 -- What a call's clauses say, by example.
 use Rattle.std.specs.Prelude.{ℕ, List, [], ◌∷◌, codes, Some}
 use Rattle.client_port.specs.Ports.{Queue}
+use Rattle.command_words.specs.declared.words.RunMode.TheVariants as modes
 use Rattle.command_words.specs.declared.words.RunOptions.{RunOptions}
 use Rattle.dura_model.specs.Partition.{Partition, fresh}
 use Rattle.dura_model.specs.Steps.{Label, finish}
@@ -12,7 +13,7 @@ use Rattle.dura_value.specs.Messages.{start, wait, to_request, was_started}
 use Rattle.dura_value.specs.declared.data.Value.TheVariants as values
 use Rattle.dura_value.specs.declared.outcome.Outcome.TheVariants as outcomes
 use Rattle.engine_run.specs.Ends.{Terms, terms_of}
-use Rattle.engine_run.specs.Job.{Job}
+use Rattle.cluster_run.specs.Asked.{Job}
 use Rattle.flow_syntax.specs.Syntax.{Flows}
 use Rattle.hub_store.specs.Trail.{Settled}
 use Rattle.part_items.specs.Examples.{digest, request, taking}
@@ -99,9 +100,13 @@ answered = record empty {
   answers = at_number empty.answers (client (codes "a")) 1 (Some was_started);
 }
 
+-- one partition on one node
+abbrev pub going_alone : (batch steps segment : ℕ) → RunOptions
+going_alone batch steps segment = record { partitions = 1; nodes = 1; mode = modes.None; batch = batch; steps = steps; seed = 0; twice = 0; drop = 0; hold = 0; segment = segment }
+
 -- options by which so many steps are enough
 abbrev pub by_steps : ℕ → RunOptions
-by_steps steps = record { partitions = 1; batch = 16; steps = steps; segment = 4096 }
+by_steps steps = going_alone 16 steps 4096
 
 -- by which nothing is given, and no stamp
 abbrev pub terms_by : (steps latest : ℕ) → Terms

@@ -9,7 +9,7 @@ use Rattle.hub_store.specs.Trail.{Settled}
 use Rattle.part_items.specs.Examples.{digest, taking, taking_log}
 use Rattle.dura_model.specs.Entries.{placed}
 use Rattle.part_items.specs.Spelling.{spell_frame}
-use Rattle.run_examples.specs.Calls.{no_flows, terms_by}
+use Rattle.run_examples.specs.Calls.{going_alone, no_flows, terms_by}
 use Rattle.run_laws.specs.Begins.{header_with}
 use Rattle.run_laws.specs.Examples.{answering}
 use Rattle.run_rules.specs.FieldExamples.{starting, ending_first}
@@ -29,11 +29,11 @@ settled_too_late = record { partition = 0; entry = taking 0; at = 5 } ∷ []
 
 -- a call that may commit nothing, an item at a time
 abbrev pub hurried : Terms
-hurried = record (terms_by 0 0) { options = record { partitions = 1; batch = 1; steps = 0; segment = 4096 } }
+hurried = record (terms_by 0 0) { options = going_alone 1 0 4096 }
 
 -- the clock was asked once, and an entry may have one item
 abbrev pub asked_once : Terms
-asked_once = record (terms_by 1 0) { options = record { partitions = 1; batch = 1; steps = 1; segment = 4096 }; after = asked 0 ∷ [] }
+asked_once = record (terms_by 1 0) { options = going_alone 1 1 4096; after = asked 0 ∷ [] }
 
 -- Sum/x is started, asks for the sum, and has it, all in one entry
 abbrev pub at_once : Entry

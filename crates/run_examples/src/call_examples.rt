@@ -68,12 +68,12 @@ pub fn refusals_touch_nothing()
 
 /// A call isn't ended by words that were wrong once it reads files, nor by another fault of them than theirs.
 pub fn causes_of_files()
-    ensures theirs { CauseHolds (three_files (codes "{}") [] (codes "{}"))
+    ensures theirs { CauseHolds (three_files (codes "{}") [] (codes "[]"))
         (causes.BadPlan places.Whole) }
-    ensures other { CauseHolds (three_files (codes "{}") [] (codes "{}"))
+    ensures other { CauseHolds (three_files (codes "{}") [] (codes "[]"))
         (causes.BadFlows faults.NotJson) → ⊥ }
     ensures usage { (files : ℕ → List ℕ) → CauseHolds files causes.Usage → ⊥ }
-    ensures waiting { CauseHolds (three_files (codes "{}") [] (codes "{}"))
+    ensures waiting { CauseHolds (three_files (codes "{}") [] (codes "[]"))
         (causes.Waiting (codes "a") 1) → ⊥ }
 {}
 

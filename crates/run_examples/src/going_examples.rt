@@ -9,7 +9,7 @@ ghost use Rattle.dura_model.specs.Steps.{Label};
 ghost use Rattle.dura_value.specs.Items.{Entry};
 ghost use Rattle.engine_run.specs.Ends.{GoesInTime, RunEndsAs, Terms};
 ghost use Rattle.engine_run.specs.Headline.{RunsOn, StandsOrderly};
-ghost use Rattle.engine_run.specs.Job.{Job};
+ghost use Rattle.cluster_run.specs.Asked.{Job};
 ghost use Rattle.engine_run.specs.Picks.{rules_with as job_rules};
 ghost use Rattle.flow_syntax.specs.Syntax.{Flows};
 ghost use Rattle.hub_store.specs.Examples.{request, one_log, log_written};

@@ -7,8 +7,11 @@ ghost use Rattle.command_words.specs.declared.words.RunOptions.{RunOptions};
 ghost use Rattle.dura_model.specs.Partition.{Partition};
 ghost use Rattle.dura_value.specs.Items.{Entry};
 ghost use Rattle.engine_run.specs.Causes.{AsksFor, AreRefused};
-ghost use Rattle.engine_run.specs.Job.{Job, FilesKeep, AreGivenIn};
-ghost use Rattle.engine_run.specs.Promises.{faults_of, FaultsRise};
+ghost use Rattle.cluster_run.specs.Asked.{Job};
+ghost use Rattle.cluster_run.specs.Comes.{AreUnfit};
+ghost use Rattle.engine_run.specs.Job.{FilesKeep, AreGivenIn};
+ghost use Rattle.engine_run.specs.Promises.{RunsAlone, RunsOver};
+ghost use Rattle.cluster_run.specs.Faults.{faults_of, FaultsRise};
 ghost use Rattle.run_causes.specs.declared.cause.Cause.TheVariants as causes;
 ghost use Rattle.run_causes.specs.declared.cause.PlanPlace.TheVariants as places;
 ghost use Rattle.run_examples.specs.Calls.{settled_once};
@@ -17,7 +20,7 @@ ghost use Rattle.site_model.specs.History.{Step, on, synced, wrote, content_of};
 
 /// A call whose words ask for nothing, and that does nothing, keeps all. One doesn't that does something then, or settles something; a run
 /// that ends with a fault of the words, that syncs where the plan is refused, that settles something where the files are refused, or settles
-/// something where they keep entries and the clock was never read; and a `show` that waits for an answer, or that writes.
+/// something where they keep entries and the clock was never read; the same of a run over partitions; and a `show` that waits for an answer, or that writes.
 pub fn promises_kept()
     ensures nothing { (words : List (List ℕ)) → call_in words ≡ None
         → Keeps words [] [] [] causes.Usage }
@@ -26,18 +29,25 @@ pub fn promises_kept()
     ensures settled { (words : List (List ℕ)) → call_in words ≡ None
         → Keeps words [] [] settled_once causes.Usage → ⊥ }
     ensures usage { (words : List (List ℕ)) (options : RunOptions)
-        → call_in words ≡ Some (calls.Run options) → Keeps words [] [] [] causes.Usage → ⊥ }
+        → RunsAlone words options → Keeps words [] [] [] causes.Usage → ⊥ }
     ensures touched { (words : List (List ℕ)) (options : RunOptions)
-        → call_in words ≡ Some (calls.Run options)
+        → RunsAlone words options
         → KeepsUntold words [] (on 16 synced ∷ []) [] (causes.BadPlan places.Whole) → ⊥ }
     ensures refused { (words : List (List ℕ)) (options : RunOptions) (old : List Step)
-        → call_in words ≡ Some (calls.Run options) → AreRefused (λ file. content_of file old)
+        → RunsAlone words options → AreRefused (λ file. content_of file old)
         → Keeps words old old settled_once causes.Memory → ⊥ }
     ensures unread { (words : List (List ℕ)) (options : RunOptions) (old : List Step) (job : Job)
-        (entries : List Entry) (begin : Partition) → call_in words ≡ Some (calls.Run options)
+        (entries : List Entry) (begin : Partition) → RunsAlone words options
         → AsksFor (λ file. content_of file old) job
         → FilesKeep job (λ file. content_of file old) entries begin → AreGivenIn job entries
         → Keeps words old old settled_once causes.Memory → ⊥ }
+    ensures touched_over { (words : List (List ℕ)) (options : RunOptions) → RunsOver words options
+        → KeepsUntold words [] (on 16 synced ∷ []) [] (causes.BadPlan places.Whole) → ⊥ }
+    ensures unfit { (words : List (List ℕ)) (options : RunOptions) (old : List Step)
+        → RunsOver words options → AreUnfit options (λ file. content_of file old)
+        → Keeps words old old settled_once causes.Memory → ⊥ }
+    ensures nothing_over { (words : List (List ℕ)) (options : RunOptions) → RunsOver words options
+        → Keeps words [] [] [] causes.Usage → ⊥ }
     ensures waiting { (words : List (List ℕ)) (partitions : ℕ)
         → call_in words ≡ Some (calls.Show partitions)
         → Keeps words [] [] [] (causes.Waiting (codes "a") 1) → ⊥ }

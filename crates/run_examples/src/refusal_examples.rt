@@ -5,7 +5,8 @@ ghost use Rattle.command_words.specs.declared.words.Call.TheVariants as calls;
 ghost use Rattle.command_words.specs.declared.words.RunOptions.{RunOptions};
 ghost use Rattle.dura_model.specs.Partition.{fresh};
 ghost use Rattle.engine_run.specs.Alone.{both_synced};
-ghost use Rattle.engine_run.specs.Causes.{AsksFor, CauseHolds, AreRefused, IsReady, IsRefusal, IsLogRefusal, LeavesAll, SettlesNothing, Untouched};
+ghost use Rattle.cluster_run.specs.Causes.{IsRefusal};
+ghost use Rattle.engine_run.specs.Causes.{AsksFor, CauseHolds, AreRefused, IsReady, IsLogRefusal, LeavesAll, SettlesNothing, Untouched};
 ghost use Rattle.engine_run.specs.Job.{FilesKeep, AreGivenIn};
 ghost use Rattle.engine_run.specs.Kept.{IsClash};
 ghost use Rattle.part_items.specs.Examples.{taking, empty_log};
@@ -36,8 +37,8 @@ pub fn calls_begin()
 pub fn files_refused()
     ensures ready { IsReady good_files }
     ensures not_refused { AreRefused good_files → ⊥ }
-    ensures input { AreRefused (three_files (codes "{}") [] (codes "{}")) }
-    ensures input_not_ready { IsReady (three_files (codes "{}") [] (codes "{}")) → ⊥ }
+    ensures input { AreRefused (three_files (codes "{}") [] (codes "[]")) }
+    ensures input_not_ready { IsReady (three_files (codes "{}") [] (codes "[]")) → ⊥ }
     ensures logs { AreRefused (directory requests_bytes empty_log) }
     ensures logs_not_ready { IsReady (directory requests_bytes empty_log) → ⊥ }
     ensures clash { AreRefused (directory requests_bytes earlier_log) }

@@ -30,3 +30,11 @@ clashing_bytes = requests_bytes ++ codes "\n{\"client\":\"a\",\"n\":1,\"wait\":\
 -- one flow and one request, and an empty plan
 abbrev pub good_files : ℕ → List ℕ
 good_files = three_files flows_bytes requests_bytes []
+
+-- a plan of one move
+abbrev pub move_bytes : List ℕ
+move_bytes = codes "{\"moves\":[{\"turn\":1,\"partition\":4,\"node\":0}]}"
+
+-- a plan of one stop
+abbrev pub stop_bytes : List ℕ
+stop_bytes = codes "{\"stops\":[{\"turn\":1,\"node\":0}]}"

@@ -6,13 +6,15 @@ use Rattle.dura_value.specs.declared.messages.Request.{Request as OwnRequest}
 use Rattle.flow_syntax.specs.Syntax.{Flows}
 use Rattle.flow_syntax.specs.Views.{flows_of}
 use Rattle.flow_reader.specs.Files.{flows_in}
+use Rattle.move_plan.specs.Plans.{plan_of}
+use Rattle.move_plan.specs.declared.plans.Plan.{Plan as OwnPlan}
 use Rattle.request_reader.specs.Line.{Request, request_of}
 use Rattle.request_reader.specs.Requests.{requests_in}
 use Rattle.run_causes.specs.declared.cause.Cause.{Cause}
 use Rattle.run_causes.specs.declared.cause.Cause.TheVariants.{BadFlows, BadRequests, Clash, BadPlan, TooLong, SiteFault, Memory}
 use Rattle.run_inputs.specs.declared.flows.FlowFile.{FlowFile}
 use Rattle.run_inputs.specs.declared.input.Input.{Input}
-use Rattle.run_inputs.specs.Refusal.{is_too_long, flows_cause, requests_cause, requests_refused, plan_refused, flows_refusal, rest_refusal, refusal_of}
+use Rattle.run_inputs.specs.Refusal.{is_too_long, flows_cause, requests_cause, requests_refused, plan_in_file, plan_cause, plan_refused, flows_refusal, rest_refusal, refusal_of}
 
 -- ---- why nothing is read
 
@@ -85,15 +87,22 @@ RequestsRead bytes (Err (Clash client number)) = requests_cause (requests_in byt
 RequestsRead bytes (Err Memory) = Unit {0}
 RequestsRead bytes (Err other) = ⊥
 
+-- the plan that the bytes give
+abbrev pub PlanRead : (partitions nodes : ℕ) → List ℕ → Result OwnPlan Cause → Type 0
+PlanRead partitions nodes bytes (Ok plan) = plan_in_file partitions nodes bytes ≡ Ok (plan_of plan)
+PlanRead partitions nodes bytes (Err (BadPlan place)) = plan_cause partitions nodes bytes ≡ Some (BadPlan place)
+PlanRead partitions nodes bytes (Err Memory) = Unit {0}
+PlanRead partitions nodes bytes (Err other) = ⊥
+
 -- the requests of a whole file 1
 abbrev pub ReadsRequestFile : List ℕ → Result (Vec OwnRequest Global) Cause → Type 0
 ReadsRequestFile bytes (Ok requests) = (requests_refused bytes ≡ None) × (requests_in bytes ≡ Ok (map request_of requests.items))
 ReadsRequestFile bytes (Err cause) = RefusesInput (requests_refused bytes) cause
 
--- whether file 2 is empty
-abbrev pub ReadsPlan : List ℕ → Result (Unit {0}) Cause → Type 0
-ReadsPlan bytes (Ok done) = plan_refused bytes ≡ None
-ReadsPlan bytes (Err cause) = RefusesInput (plan_refused bytes) cause
+-- the plan of a whole file 2
+abbrev pub ReadsPlan : (partitions nodes : ℕ) → List ℕ → Result OwnPlan Cause → Type 0
+ReadsPlan partitions nodes bytes (Ok plan) = (plan_refused partitions nodes bytes ≡ None) × (plan_in_file partitions nodes bytes ≡ Ok (plan_of plan))
+ReadsPlan partitions nodes bytes (Err cause) = RefusesInput (plan_refused partitions nodes bytes) cause
 
 -- ---- the files
 
@@ -108,19 +117,19 @@ abbrev pub ReadsFlowFile : (ℕ → List ℕ) → Result FlowFile Cause → Type
 ReadsFlowFile files (Ok file) = HasFlows files (flows_of file.flows) file.digest
 ReadsFlowFile files (Err cause) = RefusesInput (flows_refusal files) cause
 
--- the requests of file 1, unless it is refused, or file 2
-abbrev pub ReadsRest : (ℕ → List ℕ) → Result (Vec OwnRequest Global) Cause → Type 0
-ReadsRest files (Ok requests) = (rest_refusal files ≡ None) × (requests_in (files 1) ≡ Ok (map request_of requests.items))
-ReadsRest files (Err cause) = RefusesInput (rest_refusal files) cause
+-- the requests of file 1 and the plan of file 2, unless one of them is refused
+abbrev pub ReadsRest : (partitions nodes : ℕ) → (ℕ → List ℕ) → Result (Vec OwnRequest Global × OwnPlan) Cause → Type 0
+ReadsRest partitions nodes files (Ok (requests, plan)) = (rest_refusal partitions nodes files ≡ None) × (requests_in (files 1) ≡ Ok (map request_of requests.items)) × (plan_in_file partitions nodes (files 2) ≡ Ok (plan_of plan))
+ReadsRest partitions nodes files (Err cause) = RefusesInput (rest_refusal partitions nodes files) cause
 
--- The input files are accepted, and these are their flows, the digest of the flows file, and their requests.
-pub record HasInput (files : ℕ → List ℕ) (flows : Flows) (digest : ℕ) (requests : List Request) : Type 0 where
-  pub accepted : refusal_of files ≡ None
+-- The input files are accepted for so many partitions and nodes, and these are their flows, the digest of the flows file, and their requests.
+pub record HasInput (partitions nodes : ℕ) (files : ℕ → List ℕ) (flows : Flows) (digest : ℕ) (requests : List Request) : Type 0 where
+  pub accepted : refusal_of partitions nodes files ≡ None
   pub flows_in_file : flows_in (files 0) ≡ Ok flows
   pub requests_in_file : requests_in (files 1) ≡ Ok requests
   pub digest_of_file : digest ≡ fnv1a_64 (files 0)
 
 -- what reading the input files answers
-abbrev pub ReadsInput : (ℕ → List ℕ) → Result Input Cause → Type 0
-ReadsInput files (Ok input) = HasInput files (flows_of input.file.flows) input.file.digest (map request_of input.requests.items)
-ReadsInput files (Err cause) = RefusesInput (refusal_of files) cause
+abbrev pub ReadsInput : (partitions nodes : ℕ) → (ℕ → List ℕ) → Result Input Cause → Type 0
+ReadsInput partitions nodes files (Ok input) = HasInput partitions nodes files (flows_of input.file.flows) input.file.digest (map request_of input.requests.items) × (plan_in_file partitions nodes (files 2) ≡ Ok (plan_of input.plan))
+ReadsInput partitions nodes files (Err cause) = RefusesInput (refusal_of partitions nodes files) cause

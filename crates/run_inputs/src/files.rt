@@ -13,7 +13,7 @@ use std::alloc::Global;
 const INPUT_LIMIT: u64 = 16_777_216;
 
 /// The length of a file, unless it is too long.
-pub(crate) fn input_length<V: Site>(site: &mut V, file: u32) -> Result<u64, Cause>
+fn input_length<V: Site>(site: &mut V, file: u32) -> Result<u64, Cause>
     ensures tells { V.tells site.new → V.tells site.old }
     ensures reads { V.tells site.new → LengthRead (content_of file (V.history site.old)) file
         result }

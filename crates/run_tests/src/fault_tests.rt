@@ -130,7 +130,13 @@ fn check_clock_fault(rt: &impl Abort, alloc: Global, ended: Run) {
 /// Whether the clock's call with this number failed, with the next run after it checked.
 fn clock_fails_at(rt: &impl Abort, alloc: Global, number: u64) -> bool {
     let fails = vec![in alloc; number].expect(rt, "memory");
-    let first = run_words(rt, alloc, &["run"], site_of(rt, alloc, NAP, &[]), fails);
+    let first = run_words(
+        rt,
+        alloc,
+        &["run", "--partitions", "1"],
+        site_of(rt, alloc, NAP, &[]),
+        fails,
+    );
     let fails = first.status != 0;
     if fails {
         check_clock_fault(rt, alloc, first);

@@ -95,17 +95,29 @@ pub(crate) fn run_words(
 /// A run from this stamp on.
 pub(crate) fn run_from(rt: &impl Abort, alloc: Global, site: MemorySite, stamp: u32) -> Run {
     let clock = TickClock::new(u64::from(stamp), Vec::new(alloc));
-    run_with(rt, alloc, &["run"], site, clock)
+    run_with(rt, alloc, &["run", "--partitions", "1"], site, clock)
 }
 
 /// A run with so many items in an entry at the most.
 pub(crate) fn run_by(rt: &impl Abort, alloc: Global, site: MemorySite, batch: &str) -> Run {
-    run_words(rt, alloc, &["run", "--batch", batch], site, Vec::new(alloc))
+    run_words(
+        rt,
+        alloc,
+        &["run", "--partitions", "1", "--batch", batch],
+        site,
+        Vec::new(alloc),
+    )
 }
 
 /// A run.
 pub(crate) fn run_on(rt: &impl Abort, alloc: Global, site: MemorySite) -> Run {
-    run_words(rt, alloc, &["run"], site, Vec::new(alloc))
+    run_words(
+        rt,
+        alloc,
+        &["run", "--partitions", "1"],
+        site,
+        Vec::new(alloc),
+    )
 }
 
 /// The site that a run left.

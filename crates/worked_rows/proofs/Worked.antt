@@ -111,15 +111,15 @@ pub words_none : asked_by ([]) ≡ codes "usage"
 unfolding clap_on_literals digits chars
 words_none = refl
 
-pub words_run : asked_by (codes "run" ∷ []) ≡ codes "run 1 16 1048576 2147483648"
+pub words_run : asked_by (codes "run" ∷ []) ≡ codes "run 4 1 global 16 1048576 0 0 0 0 2147483648"
 unfolding clap_on_literals digits chars
 words_run = refl
 
-pub words_show : asked_by (codes "show" ∷ []) ≡ codes "show 1"
+pub words_show : asked_by (codes "show" ∷ []) ≡ codes "show 4"
 unfolding clap_on_literals digits chars
 words_show = refl
 
-pub words_all : asked_by (codes "run" ∷ codes "--segment=4096" ∷ codes "--steps" ∷ codes "7" ∷ codes "--batch" ∷ codes "64" ∷ codes "--partitions" ∷ codes "1" ∷ []) ≡ codes "run 1 64 7 4096"
+pub words_all : asked_by (codes "run" ∷ codes "--segment=4096" ∷ codes "--hold" ∷ codes "3" ∷ codes "--drop=2" ∷ codes "--twice" ∷ codes "1" ∷ codes "--seed" ∷ codes "9" ∷ codes "--steps" ∷ codes "7" ∷ codes "--batch" ∷ codes "64" ∷ codes "--mode" ∷ codes "local" ∷ codes "--nodes" ∷ codes "8" ∷ codes "--partitions" ∷ codes "1" ∷ []) ≡ codes "run 1 8 local 64 7 9 1 2 3 4096"
 unfolding clap_on_literals digits chars
 words_all = refl
 
@@ -159,7 +159,7 @@ pub words_no_value : asked_by (codes "run" ∷ codes "--batch" ∷ []) ≡ codes
 unfolding clap_on_literals digits chars
 words_no_value = refl
 
-pub words_unknown : asked_by (codes "run" ∷ codes "--seed" ∷ codes "1" ∷ []) ≡ codes "usage"
+pub words_unknown : asked_by (codes "run" ∷ codes "--speed" ∷ codes "1" ∷ []) ≡ codes "usage"
 unfolding clap_on_literals digits chars
 words_unknown = refl
 
@@ -179,19 +179,19 @@ pub words_no_version : asked_by (codes "--version" ∷ []) ≡ codes "usage"
 unfolding clap_on_literals digits chars
 words_no_version = refl
 
-pub words_one_partition : asked_by (codes "run" ∷ codes "--partitions" ∷ codes "1" ∷ []) ≡ codes "run 1 16 1048576 2147483648"
+pub words_one_partition : asked_by (codes "run" ∷ codes "--partitions" ∷ codes "1" ∷ []) ≡ codes "run 1 1 global 16 1048576 0 0 0 0 2147483648"
 unfolding clap_on_literals digits chars
 words_one_partition = refl
 
-pub words_most_batch : asked_by (codes "run" ∷ codes "--batch" ∷ codes "64" ∷ []) ≡ codes "run 1 64 1048576 2147483648"
+pub words_most_batch : asked_by (codes "run" ∷ codes "--batch" ∷ codes "64" ∷ []) ≡ codes "run 4 1 global 64 1048576 0 0 0 0 2147483648"
 unfolding clap_on_literals digits chars
 words_most_batch = refl
 
-pub words_steps : asked_by (codes "run" ∷ codes "--steps" ∷ codes "7" ∷ []) ≡ codes "run 1 16 7 2147483648"
+pub words_steps : asked_by (codes "run" ∷ codes "--steps" ∷ codes "7" ∷ []) ≡ codes "run 4 1 global 16 7 0 0 0 0 2147483648"
 unfolding clap_on_literals digits chars
 words_steps = refl
 
-pub words_segment : asked_by (codes "run" ∷ codes "--segment=4096" ∷ []) ≡ codes "run 1 16 1048576 4096"
+pub words_segment : asked_by (codes "run" ∷ codes "--segment=4096" ∷ []) ≡ codes "run 4 1 global 16 1048576 0 0 0 0 4096"
 unfolding clap_on_literals digits chars
 words_segment = refl
 
@@ -206,3 +206,107 @@ words_help_of_run = refl
 pub words_stop : asked_by (codes "stop" ∷ []) ≡ codes "usage"
 unfolding clap_on_literals digits chars
 words_stop = refl
+
+pub words_some : asked_by (codes "run" ∷ codes "--segment=4096" ∷ codes "--steps" ∷ codes "7" ∷ codes "--batch" ∷ codes "64" ∷ codes "--partitions" ∷ codes "1" ∷ []) ≡ codes "run 1 1 global 64 7 0 0 0 0 4096"
+unfolding clap_on_literals digits chars
+words_some = refl
+
+pub words_two_partitions : asked_by (codes "run" ∷ codes "--partitions" ∷ codes "2" ∷ []) ≡ codes "run 2 1 global 16 1048576 0 0 0 0 2147483648"
+unfolding clap_on_literals digits chars
+words_two_partitions = refl
+
+pub words_most_partitions : asked_by (codes "run" ∷ codes "--partitions" ∷ codes "32" ∷ []) ≡ codes "run 32 1 global 16 1048576 0 0 0 0 2147483648"
+unfolding clap_on_literals digits chars
+words_most_partitions = refl
+
+pub words_no_partition_of_run : asked_by (codes "run" ∷ codes "--partitions" ∷ codes "0" ∷ []) ≡ codes "usage"
+unfolding clap_on_literals digits chars
+words_no_partition_of_run = refl
+
+pub words_most_shown : asked_by (codes "show" ∷ codes "--partitions" ∷ codes "32" ∷ []) ≡ codes "show 32"
+unfolding clap_on_literals digits chars
+words_most_shown = refl
+
+pub words_shown_above : asked_by (codes "show" ∷ codes "--partitions" ∷ codes "33" ∷ []) ≡ codes "usage"
+unfolding clap_on_literals digits chars
+words_shown_above = refl
+
+pub words_most_nodes : asked_by (codes "run" ∷ codes "--nodes" ∷ codes "8" ∷ []) ≡ codes "run 4 8 global 16 1048576 0 0 0 0 2147483648"
+unfolding clap_on_literals digits chars
+words_most_nodes = refl
+
+pub words_nodes_above : asked_by (codes "run" ∷ codes "--nodes" ∷ codes "9" ∷ []) ≡ codes "usage"
+unfolding clap_on_literals digits chars
+words_nodes_above = refl
+
+pub words_no_node : asked_by (codes "run" ∷ codes "--nodes" ∷ codes "0" ∷ []) ≡ codes "usage"
+unfolding clap_on_literals digits chars
+words_no_node = refl
+
+pub words_shown_nodes : asked_by (codes "show" ∷ codes "--nodes" ∷ codes "1" ∷ []) ≡ codes "usage"
+unfolding clap_on_literals digits chars
+words_shown_nodes = refl
+
+pub words_mode_none : asked_by (codes "run" ∷ codes "--mode" ∷ codes "none" ∷ []) ≡ codes "run 4 1 none 16 1048576 0 0 0 0 2147483648"
+unfolding clap_on_literals digits chars
+words_mode_none = refl
+
+pub words_mode_local : asked_by (codes "run" ∷ codes "--mode" ∷ codes "local" ∷ []) ≡ codes "run 4 1 local 16 1048576 0 0 0 0 2147483648"
+unfolding clap_on_literals digits chars
+words_mode_local = refl
+
+pub words_mode_global : asked_by (codes "run" ∷ codes "--mode=global" ∷ []) ≡ codes "run 4 1 global 16 1048576 0 0 0 0 2147483648"
+unfolding clap_on_literals digits chars
+words_mode_global = refl
+
+pub words_mode_unknown : asked_by (codes "run" ∷ codes "--mode" ∷ codes "fast" ∷ []) ≡ codes "usage"
+unfolding clap_on_literals digits chars
+words_mode_unknown = refl
+
+pub words_mode_in_capitals : asked_by (codes "run" ∷ codes "--mode" ∷ codes "Global" ∷ []) ≡ codes "usage"
+unfolding clap_on_literals digits chars
+words_mode_in_capitals = refl
+
+pub words_steps_above : asked_by (codes "run" ∷ codes "--steps" ∷ codes "1048577" ∷ []) ≡ codes "usage"
+unfolding clap_on_literals digits chars
+words_steps_above = refl
+
+pub words_seed : asked_by (codes "run" ∷ codes "--seed" ∷ codes "1" ∷ []) ≡ codes "run 4 1 global 16 1048576 1 0 0 0 2147483648"
+unfolding clap_on_literals digits chars
+words_seed = refl
+
+pub words_greatest_seed : asked_by (codes "run" ∷ codes "--seed" ∷ codes "4294967295" ∷ []) ≡ codes "run 4 1 global 16 1048576 4294967295 0 0 0 2147483648"
+unfolding clap_on_literals digits chars
+words_greatest_seed = refl
+
+pub words_seed_above : asked_by (codes "run" ∷ codes "--seed" ∷ codes "4294967296" ∷ []) ≡ codes "usage"
+unfolding clap_on_literals digits chars
+words_seed_above = refl
+
+pub words_most_twice : asked_by (codes "run" ∷ codes "--twice" ∷ codes "100" ∷ []) ≡ codes "run 4 1 global 16 1048576 0 100 0 0 2147483648"
+unfolding clap_on_literals digits chars
+words_most_twice = refl
+
+pub words_twice_above : asked_by (codes "run" ∷ codes "--twice" ∷ codes "101" ∷ []) ≡ codes "usage"
+unfolding clap_on_literals digits chars
+words_twice_above = refl
+
+pub words_most_drop : asked_by (codes "run" ∷ codes "--drop" ∷ codes "100" ∷ []) ≡ codes "run 4 1 global 16 1048576 0 0 100 0 2147483648"
+unfolding clap_on_literals digits chars
+words_most_drop = refl
+
+pub words_drop_above : asked_by (codes "run" ∷ codes "--drop" ∷ codes "101" ∷ []) ≡ codes "usage"
+unfolding clap_on_literals digits chars
+words_drop_above = refl
+
+pub words_most_hold : asked_by (codes "run" ∷ codes "--hold" ∷ codes "100" ∷ []) ≡ codes "run 4 1 global 16 1048576 0 0 0 100 2147483648"
+unfolding clap_on_literals digits chars
+words_most_hold = refl
+
+pub words_hold_above : asked_by (codes "run" ∷ codes "--hold" ∷ codes "101" ∷ []) ≡ codes "usage"
+unfolding clap_on_literals digits chars
+words_hold_above = refl
+
+pub words_segment_above : asked_by (codes "run" ∷ codes "--segment" ∷ codes "2147483649" ∷ []) ≡ codes "usage"
+unfolding clap_on_literals digits chars
+words_segment_above = refl

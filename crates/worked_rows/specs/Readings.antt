@@ -1,10 +1,12 @@
 -- What worked rows say of requests and words.
-use Rattle.std.specs.Prelude.{ℕ, List, ◌∷◌, ◌++◌, codes, length, Option, Some, None, Result, Ok, Err}
+use Rattle.std.specs.Prelude.{ℕ, List, [], ◌∷◌, ◌++◌, codes, length, Option, Some, None, Result, Ok, Err}
 use Rattle.std.specs.Fmt.{decimal}
 use Rattle.std.specs.List.{join_with_byte}
 use Rattle.command_words.specs.Command.{call_in}
 use Rattle.command_words.specs.declared.words.Call.{Call}
 use Rattle.command_words.specs.declared.words.Call.TheVariants.{Run, Show}
+use Rattle.command_words.specs.declared.words.RunMode.{RunMode}
+use Rattle.command_words.specs.declared.words.RunMode.TheVariants as modes
 use Rattle.request_reader.specs.Line.{Request}
 use Rattle.request_reader.specs.Requests.{Fault, bad_line, clash, requests_in}
 
@@ -18,9 +20,17 @@ verdict (Err (clash client n)) = codes "clash " ++ client ++ 32 ∷ decimal n
 abbrev pub requests_of : List (List ℕ) → List ℕ
 requests_of lines = verdict (requests_in (join_with_byte 10 lines))
 
--- partitions, batch, steps and segment of a run, or the partitions that are shown
+-- the word for a mode
+abbrev pub mode_text : RunMode → List ℕ
+mode_text modes.None = codes "none"
+mode_text modes.Local = codes "local"
+mode_text modes.Global = codes "global"
+
+-- the values of a run in the order of its options, or the partitions that are shown
 abbrev pub call_text : Option Call → List ℕ
-call_text (Some (Run o)) = codes "run " ++ decimal o.partitions ++ 32 ∷ decimal o.batch ++ 32 ∷ decimal o.steps ++ 32 ∷ decimal o.segment
+call_text (Some (Run o)) =
+    codes "run " ++ join_with_byte 32 (decimal o.partitions ∷ decimal o.nodes ∷ mode_text o.mode ∷ decimal o.batch ∷ decimal o.steps ∷ decimal o.seed
+    ∷ decimal o.twice ∷ decimal o.drop ∷ decimal o.hold ∷ decimal o.segment ∷ [])
 call_text (Some (Show partitions)) = codes "show " ++ decimal partitions
 call_text None = codes "usage"
 

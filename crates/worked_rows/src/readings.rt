@@ -64,14 +64,17 @@ pub fn request_files()
 {}
 
 /// Words: what they ask for, or that the command refuses them.
-#[tactic(auto, using(crate::proofs::Worked::words_none, crate::proofs::Worked::words_run, crate::proofs::Worked::words_show, crate::proofs::Worked::words_all, crate::proofs::Worked::words_many_partitions, crate::proofs::Worked::words_no_partition, crate::proofs::Worked::words_leading_zero, crate::proofs::Worked::words_sign, crate::proofs::Worked::words_batch_above, crate::proofs::Worked::words_segment_below, crate::proofs::Worked::words_steps_none, crate::proofs::Worked::words_twice, crate::proofs::Worked::words_no_value, crate::proofs::Worked::words_unknown, crate::proofs::Worked::words_of_run, crate::proofs::Worked::words_further, crate::proofs::Worked::words_no_help, crate::proofs::Worked::words_no_version, crate::proofs::Worked::words_one_partition, crate::proofs::Worked::words_most_batch, crate::proofs::Worked::words_steps, crate::proofs::Worked::words_segment, crate::proofs::Worked::words_shown_partition, crate::proofs::Worked::words_help_of_run, crate::proofs::Worked::words_stop))]
+#[tactic(auto, using(crate::proofs::Worked::words_none, crate::proofs::Worked::words_run, crate::proofs::Worked::words_show, crate::proofs::Worked::words_all, crate::proofs::Worked::words_many_partitions, crate::proofs::Worked::words_no_partition, crate::proofs::Worked::words_leading_zero, crate::proofs::Worked::words_sign, crate::proofs::Worked::words_batch_above, crate::proofs::Worked::words_segment_below, crate::proofs::Worked::words_steps_none, crate::proofs::Worked::words_twice, crate::proofs::Worked::words_no_value, crate::proofs::Worked::words_unknown, crate::proofs::Worked::words_of_run, crate::proofs::Worked::words_further, crate::proofs::Worked::words_no_help, crate::proofs::Worked::words_no_version, crate::proofs::Worked::words_one_partition, crate::proofs::Worked::words_most_batch, crate::proofs::Worked::words_steps, crate::proofs::Worked::words_segment, crate::proofs::Worked::words_shown_partition, crate::proofs::Worked::words_help_of_run, crate::proofs::Worked::words_stop, crate::proofs::Worked::words_some, crate::proofs::Worked::words_two_partitions, crate::proofs::Worked::words_most_partitions, crate::proofs::Worked::words_no_partition_of_run, crate::proofs::Worked::words_most_shown, crate::proofs::Worked::words_shown_above, crate::proofs::Worked::words_most_nodes, crate::proofs::Worked::words_nodes_above, crate::proofs::Worked::words_no_node, crate::proofs::Worked::words_shown_nodes, crate::proofs::Worked::words_mode_none, crate::proofs::Worked::words_mode_local, crate::proofs::Worked::words_mode_global, crate::proofs::Worked::words_mode_unknown, crate::proofs::Worked::words_mode_in_capitals, crate::proofs::Worked::words_steps_above, crate::proofs::Worked::words_seed, crate::proofs::Worked::words_greatest_seed, crate::proofs::Worked::words_seed_above, crate::proofs::Worked::words_most_twice, crate::proofs::Worked::words_twice_above, crate::proofs::Worked::words_most_drop, crate::proofs::Worked::words_drop_above, crate::proofs::Worked::words_most_hold, crate::proofs::Worked::words_hold_above, crate::proofs::Worked::words_segment_above))]
 pub fn words()
     ensures of_none { asked_by ([]) ≡ codes "usage" }
-    ensures of_run { asked_by (codes "run" ∷ []) ≡ codes "run 1 16 1048576 2147483648" }
-    ensures of_show { asked_by (codes "show" ∷ []) ≡ codes "show 1" }
-    ensures of_all { asked_by (codes "run" ∷ codes "--segment=4096" ∷ codes "--steps" ∷ codes "7"
-        ∷ codes "--batch" ∷ codes "64" ∷ codes "--partitions" ∷ codes "1" ∷ [])
-        ≡ codes "run 1 64 7 4096" }
+    ensures of_run { asked_by (codes "run" ∷ [])
+        ≡ codes "run 4 1 global 16 1048576 0 0 0 0 2147483648" }
+    ensures of_show { asked_by (codes "show" ∷ []) ≡ codes "show 4" }
+    ensures of_all { asked_by (codes "run" ∷ codes "--segment=4096" ∷ codes "--hold" ∷ codes "3"
+        ∷ codes "--drop=2" ∷ codes "--twice" ∷ codes "1" ∷ codes "--seed" ∷ codes "9"
+        ∷ codes "--steps" ∷ codes "7" ∷ codes "--batch" ∷ codes "64" ∷ codes "--mode"
+        ∷ codes "local" ∷ codes "--nodes" ∷ codes "8" ∷ codes "--partitions" ∷ codes "1" ∷ [])
+        ≡ codes "run 1 8 local 64 7 9 1 2 3 4096" }
     ensures of_many_partitions { asked_by (codes "run" ∷ codes "--partitions" ∷ codes "33" ∷ [])
         ≡ codes "usage" }
     ensures of_no_partition { asked_by (codes "show" ∷ codes "--partitions" ∷ codes "0" ∷ [])
@@ -88,23 +91,75 @@ pub fn words()
     ensures of_twice { asked_by (codes "run" ∷ codes "--batch" ∷ codes "8" ∷ codes "--batch"
         ∷ codes "8" ∷ []) ≡ codes "usage" }
     ensures of_no_value { asked_by (codes "run" ∷ codes "--batch" ∷ []) ≡ codes "usage" }
-    ensures of_unknown { asked_by (codes "run" ∷ codes "--seed" ∷ codes "1" ∷ []) ≡ codes "usage" }
+    ensures of_unknown { asked_by (codes "run" ∷ codes "--speed" ∷ codes "1" ∷ []) ≡ codes "usage" }
     ensures of_of_run { asked_by (codes "show" ∷ codes "--batch" ∷ codes "8" ∷ []) ≡ codes "usage" }
     ensures of_further { asked_by (codes "run" ∷ codes "on" ∷ []) ≡ codes "usage" }
     ensures of_no_help { asked_by (codes "help" ∷ []) ≡ codes "usage" }
     ensures of_no_version { asked_by (codes "--version" ∷ []) ≡ codes "usage" }
     ensures of_one_partition { asked_by (codes "run" ∷ codes "--partitions" ∷ codes "1" ∷ [])
-        ≡ codes "run 1 16 1048576 2147483648" }
+        ≡ codes "run 1 1 global 16 1048576 0 0 0 0 2147483648" }
     ensures of_most_batch { asked_by (codes "run" ∷ codes "--batch" ∷ codes "64" ∷ [])
-        ≡ codes "run 1 64 1048576 2147483648" }
+        ≡ codes "run 4 1 global 64 1048576 0 0 0 0 2147483648" }
     ensures of_steps { asked_by (codes "run" ∷ codes "--steps" ∷ codes "7" ∷ [])
-        ≡ codes "run 1 16 7 2147483648" }
+        ≡ codes "run 4 1 global 16 7 0 0 0 0 2147483648" }
     ensures of_segment { asked_by (codes "run" ∷ codes "--segment=4096" ∷ [])
-        ≡ codes "run 1 16 1048576 4096" }
+        ≡ codes "run 4 1 global 16 1048576 0 0 0 0 4096" }
     ensures of_shown_partition { asked_by (codes "show" ∷ codes "--partitions" ∷ codes "1" ∷ [])
         ≡ codes "show 1" }
     ensures of_help_of_run { asked_by (codes "run" ∷ codes "--help" ∷ []) ≡ codes "usage" }
     ensures of_stop { asked_by (codes "stop" ∷ []) ≡ codes "usage" }
+    ensures of_some { asked_by (codes "run" ∷ codes "--segment=4096" ∷ codes "--steps" ∷ codes "7"
+        ∷ codes "--batch" ∷ codes "64" ∷ codes "--partitions" ∷ codes "1" ∷ [])
+        ≡ codes "run 1 1 global 64 7 0 0 0 0 4096" }
+    ensures of_two_partitions { asked_by (codes "run" ∷ codes "--partitions" ∷ codes "2" ∷ [])
+        ≡ codes "run 2 1 global 16 1048576 0 0 0 0 2147483648" }
+    ensures of_most_partitions { asked_by (codes "run" ∷ codes "--partitions" ∷ codes "32" ∷ [])
+        ≡ codes "run 32 1 global 16 1048576 0 0 0 0 2147483648" }
+    ensures of_no_partition_of_run { asked_by (codes "run" ∷ codes "--partitions" ∷ codes "0" ∷ [])
+        ≡ codes "usage" }
+    ensures of_most_shown { asked_by (codes "show" ∷ codes "--partitions" ∷ codes "32" ∷ [])
+        ≡ codes "show 32" }
+    ensures of_shown_above { asked_by (codes "show" ∷ codes "--partitions" ∷ codes "33" ∷ [])
+        ≡ codes "usage" }
+    ensures of_most_nodes { asked_by (codes "run" ∷ codes "--nodes" ∷ codes "8" ∷ [])
+        ≡ codes "run 4 8 global 16 1048576 0 0 0 0 2147483648" }
+    ensures of_nodes_above { asked_by (codes "run" ∷ codes "--nodes" ∷ codes "9" ∷ [])
+        ≡ codes "usage" }
+    ensures of_no_node { asked_by (codes "run" ∷ codes "--nodes" ∷ codes "0" ∷ []) ≡ codes "usage" }
+    ensures of_shown_nodes { asked_by (codes "show" ∷ codes "--nodes" ∷ codes "1" ∷ [])
+        ≡ codes "usage" }
+    ensures of_mode_none { asked_by (codes "run" ∷ codes "--mode" ∷ codes "none" ∷ [])
+        ≡ codes "run 4 1 none 16 1048576 0 0 0 0 2147483648" }
+    ensures of_mode_local { asked_by (codes "run" ∷ codes "--mode" ∷ codes "local" ∷ [])
+        ≡ codes "run 4 1 local 16 1048576 0 0 0 0 2147483648" }
+    ensures of_mode_global { asked_by (codes "run" ∷ codes "--mode=global" ∷ [])
+        ≡ codes "run 4 1 global 16 1048576 0 0 0 0 2147483648" }
+    ensures of_mode_unknown { asked_by (codes "run" ∷ codes "--mode" ∷ codes "fast" ∷ [])
+        ≡ codes "usage" }
+    ensures of_mode_in_capitals { asked_by (codes "run" ∷ codes "--mode" ∷ codes "Global" ∷ [])
+        ≡ codes "usage" }
+    ensures of_steps_above { asked_by (codes "run" ∷ codes "--steps" ∷ codes "1048577" ∷ [])
+        ≡ codes "usage" }
+    ensures of_seed { asked_by (codes "run" ∷ codes "--seed" ∷ codes "1" ∷ [])
+        ≡ codes "run 4 1 global 16 1048576 1 0 0 0 2147483648" }
+    ensures of_greatest_seed { asked_by (codes "run" ∷ codes "--seed" ∷ codes "4294967295" ∷ [])
+        ≡ codes "run 4 1 global 16 1048576 4294967295 0 0 0 2147483648" }
+    ensures of_seed_above { asked_by (codes "run" ∷ codes "--seed" ∷ codes "4294967296" ∷ [])
+        ≡ codes "usage" }
+    ensures of_most_twice { asked_by (codes "run" ∷ codes "--twice" ∷ codes "100" ∷ [])
+        ≡ codes "run 4 1 global 16 1048576 0 100 0 0 2147483648" }
+    ensures of_twice_above { asked_by (codes "run" ∷ codes "--twice" ∷ codes "101" ∷ [])
+        ≡ codes "usage" }
+    ensures of_most_drop { asked_by (codes "run" ∷ codes "--drop" ∷ codes "100" ∷ [])
+        ≡ codes "run 4 1 global 16 1048576 0 0 100 0 2147483648" }
+    ensures of_drop_above { asked_by (codes "run" ∷ codes "--drop" ∷ codes "101" ∷ [])
+        ≡ codes "usage" }
+    ensures of_most_hold { asked_by (codes "run" ∷ codes "--hold" ∷ codes "100" ∷ [])
+        ≡ codes "run 4 1 global 16 1048576 0 0 0 100 2147483648" }
+    ensures of_hold_above { asked_by (codes "run" ∷ codes "--hold" ∷ codes "101" ∷ [])
+        ≡ codes "usage" }
+    ensures of_segment_above { asked_by (codes "run" ∷ codes "--segment" ∷ codes "2147483649" ∷ [])
+        ≡ codes "usage" }
 {}
 
 /// Two clients' requests: what is due, and the lines of what was said.

@@ -20,6 +20,6 @@ all_answered rules mode nodes first last done came (one_more {done = before} {ca
     length-append told (answer ∷ []) ∙ ap (λ (n : ℕ). n + 1) (all_answered rules mode nodes first old before told lives) ∙ sym (length-append before (deed ∷ []))
 
 -- where memory ran out nothing is said of why
-pub why_memory : (flows : Flows) (count digest : ℕ) (files : ℕ → List ℕ) (refused : Option OpenError) → IfSome refused (λ e. e ≡ refusals.Refused errors.Memory) → IfSome refused (WhyUnopened flows count digest files)
+pub why_memory : (flows : Flows) (count digest : ℕ) (files : ℕ → List ℕ) (refused : Option OpenError) → IfSome refused (λ e. e ≡ refusals.Refused errors.Memory) → IfSome refused (WhyUnopened flows count digest files [])
 why_memory flows count digest files None is = tt
-why_memory flows count digest files (Some error) is = subst (WhyUnopened flows count digest files) (sym is) tt
+why_memory flows count digest files (Some error) is = subst (WhyUnopened flows count digest files []) (sym is) tt

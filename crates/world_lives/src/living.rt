@@ -1,6 +1,6 @@
 //! A life of the world.
 
-ghost use Rattle.std.specs.Prelude.{◌≡◌, ◌≤◌, ◌<◌, ◌^◌, ◌≢◌, ℕ, [], false, None, length, IfSome};
+ghost use Rattle.std.specs.Prelude.{◌≡◌, ◌≤◌, ◌<◌, ◌^◌, ◌≢◌, ℕ, [], false, None, Some, length, IfSome};
 ghost use Rattle.std.specs.Vec.{vec_capacity};
 ghost use Rattle.call_begins.specs.Begins.{BeginsWith, IsUntouched};
 ghost use Rattle.cell_frames.specs.Begun.{HasBegun};
@@ -13,6 +13,7 @@ ghost use Rattle.many_rules.specs.Makes.{Makes};
 ghost use Rattle.open_logs.specs.Begun.{CanBegin, MadeBy};
 ghost use Rattle.open_logs.specs.Moments.{OpensOnly};
 ghost use Rattle.open_logs.specs.Spent.{WhyUnopened};
+ghost use Rattle.site_model.specs.Calls.{HasRisen};
 ghost use Rattle.site_model.specs.History.{content_of};
 ghost use Rattle.site_model.specs.Moments.{Always};
 ghost use Rattle.world_lives.specs.Begins.{rules_of};
@@ -174,7 +175,9 @@ fn live_since<V: Site, S: Since, R: Reactions>(
         → OpensOnly (R.flows reactions.now) shape.count shape.digest (V.history site)
         (V.history result.site) }
     ensures refused { V.tells result.site → IfSome result.refused (WhyUnopened
-        (R.flows reactions.now) shape.count shape.digest (λ file. content_of file (V.history site))) }
+        (R.flows reactions.now) shape.count shape.digest (λ file. content_of file (V.history site)) []) }
+    ensures fault { result.refused ≡ Some (OpenError.Refused RecoverError.SiteFault)
+        → HasRisen (V.disk_faults site) (V.disk_faults result.site) }
     ensures answers { result.refused ≡ None
         → length result.answers.items ≡ length deeds.items }
     ensures lived { result.refused ≡ None → IsLife (R.flows reactions.now) shape.count shape.digest
@@ -182,7 +185,7 @@ fn live_since<V: Site, S: Since, R: Reactions>(
         deeds.items result.answers.items result.trail }
 {
     let mut site = site;
-    match open_logs(alloc, &mut site, reactions, shape.digest, shape.count) {
+    match open_logs(alloc, &mut site, reactions, &[], shape.digest, shape.count) {
         Ok(begun) => {
             let placed = placed_by::<Brand, V, R>(
                 &site,
@@ -216,7 +219,9 @@ pub fn live<V: Site, R: Reactions>(
         → OpensOnly (R.flows reactions.now) shape.count shape.digest (V.history site)
         (V.history result.site) }
     ensures refused { V.tells result.site → IfSome result.refused (WhyUnopened
-        (R.flows reactions.now) shape.count shape.digest (λ file. content_of file (V.history site))) }
+        (R.flows reactions.now) shape.count shape.digest (λ file. content_of file (V.history site)) []) }
+    ensures fault { result.refused ≡ Some (OpenError.Refused RecoverError.SiteFault)
+        → HasRisen (V.disk_faults site) (V.disk_faults result.site) }
     ensures answers { result.refused ≡ None
         → length result.answers.items ≡ length deeds.items }
     ensures lived { result.refused ≡ None → IsLife (R.flows reactions.now) shape.count shape.digest

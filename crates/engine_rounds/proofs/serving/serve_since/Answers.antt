@@ -1,14 +1,23 @@
-use Rattle.std.proofs.Common.{ℕ, List, map, refl, sym, subst, true, arith}
+use Rattle.std.proofs.Common.{◌≡◌, ◌∙◌, Err, IfSome, ap, ℕ, List, map, refl, sym, subst, true, arith}
 use Rattle.call_begins.proofs.Going.{has_begun}
 use Rattle.call_begins.specs.Begins.{call_rules}
-use Rattle.engine_rounds.proofs.Opens.{stands_orderly, why_memory}
+use Rattle.client_order.specs.Clashes.{taken_in, NoClash}
+use Rattle.dura_value.specs.declared.messages.Request.{Request as OwnRequest}
+use Rattle.engine_rounds.proofs.Opens.{stands_orderly, synced_memory, why_memory}
 use Rattle.engine_rounds.specs.Served.{refusal_in}
+use Rattle.engine_rounds.specs.declared.serving.Came.{Came}
+use Rattle.engine_rounds.specs.declared.serving.Came.TheVariants as cames
+use Rattle.open_logs.specs.declared.error.OpenError.TheVariants as refusals
+use Rattle.recover_core.specs.declared.error.RecoverError.TheVariants as errors
+use Rattle.site_model.specs.Calls.{HasRisen}
 use Rattle.hub_store.specs.Trail.{settled_at}
 use Rattle.node_core.proofs.Steps.{rises_later}
 use Rattle.open_logs.proofs.KeptRun.{kept_by_other, same_own}
 use Rattle.open_logs.proofs.Picked.{origin_is}
 use Rattle.open_logs.specs.Begun.{AreTheirs}
+use Rattle.log_files.specs.Fronts.{AreSyncs}
 use Rattle.open_logs.specs.Picks.{files_of, origin_of}
+use Rattle.open_logs.specs.Spent.{AreRefused}
 use Rattle.order_laws.proofs.Stands.{order_stands}
 use Rattle.part_steps.specs.States.{parts_in}
 use Rattle.request_reader.specs.Line.{request_of}
@@ -49,6 +58,7 @@ returns-in-Ok-clause-served g c = λ none.
       run = run;
       steps = g.V.Site.history c.open_logs.new.site;
       made = made.0;
+      no_clash = subst (λ (q : List OwnRequest). NoClash (taken_in shape.count (parts_in c.in-Ok.begun.states.items)) (map request_of q)) c.deref.ensures.value c.in-Ok.ensures.no_clash;
       causal = e.causal none;
       theirs = λ tells. theirs (e.tells tells);
       opening = λ tells. c.open_logs.ensures.during (e.tells tells);
@@ -73,7 +83,7 @@ returns-in-Ok-clause-served g c = λ none.
 pub returns-in-Ok-clause-refused : goal.returns-in-Ok-clause-refused
 returns-in-Ok-clause-refused g c = λ tells.
     let shape = c.args.shape in
-    why_memory (g.R.Reactions.flows c.args.reactions.now) shape.count shape.digest (λ file. content_of file (g.V.Site.history c.args.site)) (refusal_in c.serve_named.result.came) c.serve_named.ensures.memory
+    why_memory (g.R.Reactions.flows c.args.reactions.now) shape.count shape.digest (λ file. content_of file (g.V.Site.history c.args.site)) (map request_of c.args.requests.items) (refusal_in c.serve_named.result.came) c.serve_named.ensures.memory
 
 pub returns-in-Ok-clause-halts : goal.returns-in-Ok-clause-halts
 returns-in-Ok-clause-halts g c = λ halt came.
@@ -83,3 +93,33 @@ returns-in-Ok-clause-halts g c = λ halt came.
     let now = c.serve_named.result.site in
     let say = c.open_logs.ensures.say_faults in
     rises_later (g.V.Site.disk_faults before) (g.V.Site.say_faults before) (g.V.Site.disk_faults opened) (g.V.Site.say_faults opened) (g.V.Site.disk_faults now) (g.V.Site.say_faults now) halt c.open_logs.ensures.later e.later.0 (omega (arith, say)) e.later.1 (e.halts halt came)
+
+pub returns-in-Err-clause-fault : goal.returns-in-Err-clause-fault
+returns-in-Err-clause-fault g c = λ came.
+    let is : cames.Refused c.in-Err.error ≡ cames.Refused (refusals.Refused errors.SiteFault) = sym c.refused_by.ensures.came ∙ came in
+    let same : c.in-Err.error ≡ refusals.Refused errors.SiteFault = cc is in
+    subst (λ site. HasRisen (g.V.Site.disk_faults c.args.site) (g.V.Site.disk_faults site)) (sym c.refused_by.ensures.site) (c.open_logs.ensures.fault (c.in-Err.is ∙ ap Err same))
+
+pub returns-in-Ok-clause-fault : goal.returns-in-Ok-clause-fault
+returns-in-Ok-clause-fault g c = λ came.
+    let wrong : refusals.Refused errors.SiteFault ≡ refusals.Refused errors.Memory = subst (λ (x : Came). IfSome (refusal_in x) (λ e. e ≡ refusals.Refused errors.Memory)) came c.serve_named.ensures.memory in
+    absurd (cc wrong)
+
+pub returns-in-Ok-clause-synced : goal.returns-in-Ok-clause-synced
+returns-in-Ok-clause-synced g c =
+    synced_memory c.args.shape.count (g.V.Site.history c.args.site) (g.V.Site.history c.serve_named.result.site) (refusal_in c.serve_named.result.came) c.serve_named.ensures.memory
+
+pub returns-in-Ok-clause-clean : goal.returns-in-Ok-clause-clean
+returns-in-Ok-clause-clean g c = λ tells refused.
+    let shape = c.args.shape in
+    let before : ℕ → List ℕ = λ file. content_of file (g.V.Site.history c.args.site) in
+    absurd (c.in-Ok.ensures.accepts (c.serve_named.ensures.tells tells)
+    (subst (λ (q : List OwnRequest). AreRefused (g.R.Reactions.flows c.args.reactions.now) shape.count shape.digest before (map request_of q)) (sym c.deref.ensures.value) refused))
+
+pub returns-in-Err-clause-clean : goal.returns-in-Err-clause-clean
+returns-in-Err-clause-clean g c = λ tells refused.
+    let shape = c.args.shape in
+    let old = g.V.Site.history c.args.site in
+    let e = c.refused_by.ensures in
+    let own = subst (λ (q : List OwnRequest). AreRefused (g.R.Reactions.flows c.args.reactions.now) shape.count shape.digest (λ file. content_of file old) (map request_of q)) (sym c.deref.ensures.value) refused in
+    (subst (λ site. AreSyncs shape.count old (g.V.Site.history site)) (sym e.site) (c.open_logs.ensures.clean (subst g.V.Site.tells e.site tells) own), e.trail)

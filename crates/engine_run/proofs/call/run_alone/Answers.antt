@@ -1,5 +1,6 @@
-use Rattle.std.proofs.Common.{◌≡◌, ◌≤◌, ◌∙◌, inl, inr, ℕ, Some, refl, sym, ap, subst, arith}
+use Rattle.std.proofs.Common.{◌≡◌, ◌≤◌, ◌∙◌, inl, inr, ℕ, List, true, false, Some, refl, sym, ap, subst, arith}
 use Rattle.std.proofs.Math.Nat.{le_of_eq}
+use Rattle.cluster_run.specs.Comes.{AreUnfit, ComesTo, KeepsFiles, LeavesLogs}
 use Rattle.command_words.specs.Command.{call_in}
 use Rattle.command_words.specs.declared.words.Call.TheVariants.{Run, Show}
 use Rattle.command_words.specs.declared.words.RunOptions.{RunOptions}
@@ -8,13 +9,16 @@ use Rattle.engine_run.specs.Ends.{terms_of}
 use Rattle.engine_run.specs.Headline.{Headline}
 use Rattle.engine_run.specs.Opened.{IsOpening}
 use Rattle.engine_run.specs.Prepared.{IsEarlyCause}
+use Rattle.engine_run.specs.Promises.{RunsOver, is_alone}
 use Rattle.engine_run.specs.Showing.{ShowsAs, WritesNothing}
 use Rattle.engine_run.proofs.Early.{differ}
 use Rattle.engine_run.proofs.Ending.{memory_no_site, memory_no_say, memory_no_clock}
 use Rattle.engine_run.proofs.Opens.{opening_first}
-use Rattle.engine_run.proofs.Words.{run_is_within, run_same, run_no_show, show_same, none_no_call}
+use Rattle.engine_run.proofs.Words.{run_is_within, show_is_within, run_same, run_no_show, show_same, none_no_call, never_both}
 use Rattle.engine_run.proofs.call.run_alone.Goals as goal
 use Rattle.run_causes.specs.Causes.{status_of}
+use Rattle.run_inputs.specs.Input.{RefusesInput}
+use Rattle.run_inputs.specs.Refusal.{refusal_of}
 use Rattle.run_causes.specs.declared.cause.Cause.{Cause}
 use Rattle.run_causes.specs.declared.cause.Cause.TheVariants.{Usage, SiteFault, SayFault, ClockFault, Memory}
 use Rattle.site_model.specs.Calls.{HasRisen}
@@ -33,12 +37,28 @@ run_requests-requires-clause-fits g c = let is = rw c.in-Ok-Run.field-0-is at c.
 pub run_requests-requires-clause-short : goal.run_requests-requires-clause-short
 run_requests-requires-clause-short g c = let is = rw c.in-Ok-Run.field-0-is at c.in-Ok-Run.ensures in let w = run_is_within c.args.words.now c.in-Ok-Run.options is in w.short
 
-pub returns-in-Ok-Run : goal.returns-in-Ok-Run
-returns-in-Ok-Run g c =
+pub run_cluster-requires-clause-some : goal.run_cluster-requires-clause-some
+run_cluster-requires-clause-some g c = let is = rw c.in-Ok-Run.field-0-is at c.in-Ok-Run.ensures in let w = run_is_within c.args.words.now c.in-Ok-Run.options is in w.there
+
+pub run_cluster-requires-clause-few : goal.run_cluster-requires-clause-few
+run_cluster-requires-clause-few g c = let is = rw c.in-Ok-Run.field-0-is at c.in-Ok-Run.ensures in let w = run_is_within c.args.words.now c.in-Ok-Run.options is in w.most
+
+pub run_cluster-requires-clause-batch : goal.run_cluster-requires-clause-batch
+run_cluster-requires-clause-batch g c = let is = rw c.in-Ok-Run.field-0-is at c.in-Ok-Run.ensures in let w = run_is_within c.args.words.now c.in-Ok-Run.options is in w.some
+
+pub run_cluster-requires-clause-most : goal.run_cluster-requires-clause-most
+run_cluster-requires-clause-most g c = let is = rw c.in-Ok-Run.field-0-is at c.in-Ok-Run.ensures in let w = run_is_within c.args.words.now c.in-Ok-Run.options is in w.few
+
+pub run_cluster-requires-clause-short : goal.run_cluster-requires-clause-short
+run_cluster-requires-clause-short g c = let is = rw c.in-Ok-Run.field-0-is at c.in-Ok-Run.ensures in let w = run_is_within c.args.words.now c.in-Ok-Run.options is in w.short
+
+pub returns-then-is_alone : goal.returns-then-is_alone
+returns-then-is_alone g c =
     let is = rw c.in-Ok-Run.field-0-is at c.in-Ok-Run.ensures in
     let ran = c.run_requests.ensures in
     let end = c.run_requests.result in
     let is_run : call_in c.args.words.now ≡ Some (Run c.in-Ok-Run.options) = is in
+    let alone : is_alone c.in-Ok-Run.options ≡ true = sym c.is_alone.ensures ∙ c.if-is_alone.true in
     let old = g.V.Site.history c.args.site in record {
       tells = ran.tells;
       status = ran.status;
@@ -50,12 +70,53 @@ returns-in-Ok-Run g c =
         untouched = λ options asked. ran.untouched;
         refused = λ tells options asked refused. ran.refused tells refused;
         settles_nothing = λ is. ran.settles_nothing (subst (λ call. SettlesNothing call end.cause) is_run is);
-        headline = λ tells options asked job asks. subst (λ (o : RunOptions). Headline job (λ file. content_of file old) old (g.V.Site.history end.site) end.trail (terms_of o g.A.Activities.gives (g.C.Clock.given c.args.clock) (g.C.Clock.given end.clock) (g.C.Clock.latest end.clock)) end.cause) (run_same (call_in c.args.words.now) c.in-Ok-Run.options options is asked) (ran.headline tells job asks);
+        headline = λ tells options asked job asks. subst (λ (o : RunOptions). Headline job (λ file. content_of file old) old (g.V.Site.history end.site) end.trail (terms_of o g.A.Activities.gives (g.C.Clock.given c.args.clock) (g.C.Clock.given end.clock) (g.C.Clock.latest end.clock)) end.cause) (run_same (call_in c.args.words.now) c.in-Ok-Run.options options is asked.0) (ran.headline tells job asks);
+        comes = λ tells options asked. absurd (never_both c.in-Ok-Run.options options (run_same (call_in c.args.words.now) c.in-Ok-Run.options options is asked.0) alone asked.1);
+        keeps = λ options asked. absurd (never_both c.in-Ok-Run.options options (run_same (call_in c.args.words.now) c.in-Ok-Run.options options is asked.0) alone asked.1);
+        unfit = λ tells options asked. absurd (never_both c.in-Ok-Run.options options (run_same (call_in c.args.words.now) c.in-Ok-Run.options options is asked.0) alone asked.1);
         shows = λ tells partitions asked. absurd (run_no_show (call_in c.args.words.now) c.in-Ok-Run.options partitions is asked);
         writes_nothing = λ partitions asked. absurd (run_no_show (call_in c.args.words.now) c.in-Ok-Run.options partitions is asked);
       };
       faults = ran.faults;
     }
+
+pub returns-else-is_alone : goal.returns-else-is_alone
+returns-else-is_alone g c =
+    let is = rw c.in-Ok-Run.field-0-is at c.in-Ok-Run.ensures in
+    let ran = c.run_cluster.ensures in
+    let end = c.run_cluster.result in
+    let own = c.in-Ok-Run.options in
+    let is_run : call_in c.args.words.now ≡ Some (Run own) = is in
+    let over : is_alone own ≡ false = sym c.is_alone.ensures ∙ c.if-is_alone.false in
+    let old = g.V.Site.history c.args.site in
+    let now = g.V.Site.history end.site in
+    let files : ℕ → List ℕ = λ file. content_of file old in
+    let same : (options : RunOptions) → RunsOver c.args.words.now options → own ≡ options = λ options asked. run_same (call_in c.args.words.now) own options is_run asked.0 in record {
+      tells = ran.tells;
+      status = ran.status;
+      usage = λ none. absurd (none_no_call (call_in c.args.words.now) (Run own) none is);
+      only_usage = λ usage. absurd (ran.no_usage usage);
+      promises = record {
+        idle = λ none. absurd (none_no_call (call_in c.args.words.now) (Run own) none is);
+        answers = λ tells options asked. absurd (never_both options own (run_same (call_in c.args.words.now) options own asked.0 is_run) asked.1 over);
+        untouched = λ options asked. absurd (never_both options own (run_same (call_in c.args.words.now) options own asked.0 is_run) asked.1 over);
+        refused = λ tells options asked. absurd (never_both options own (run_same (call_in c.args.words.now) options own asked.0 is_run) asked.1 over);
+        settles_nothing = λ is. ran.nothing (subst (λ call. SettlesNothing call end.cause) is_run is);
+        headline = λ tells options asked. absurd (never_both options own (run_same (call_in c.args.words.now) options own asked.0 is_run) asked.1 over);
+        comes = λ tells options asked. subst (λ (o : RunOptions). ComesTo o files (g.C.Clock.latest end.clock) (g.V.Site.tells end.site) old now end.trail end.cause) (same options asked) (ran.comes tells);
+        keeps = λ options asked. subst (λ (o : RunOptions). KeepsFiles o.partitions old now end.cause) (same options asked) ran.untouched;
+        unfit = λ tells options asked unfit. subst (λ (o : RunOptions). AreUnfit o files → LeavesLogs o.partitions old now end.trail) (same options asked) (ran.unfit tells) unfit;
+        shows = λ tells partitions asked. absurd (run_no_show (call_in c.args.words.now) own partitions is asked);
+        writes_nothing = λ partitions asked. absurd (run_no_show (call_in c.args.words.now) own partitions is asked);
+      };
+      faults = ran.faults;
+    }
+
+pub show-cause-requires-clause-some : goal.show-cause-requires-clause-some
+show-cause-requires-clause-some g c = let is = rw c.in-Ok-Show.field-0-is at c.in-Ok-Show.ensures in let w = show_is_within c.args.words.now c.in-Ok-Show.partitions is in w.some
+
+pub show-cause-requires-clause-few : goal.show-cause-requires-clause-few
+show-cause-requires-clause-few g c = let is = rw c.in-Ok-Show.field-0-is at c.in-Ok-Show.ensures in let w = show_is_within c.args.words.now c.in-Ok-Show.partitions is in w.few
 
 pub returns-in-Ok-Show : goal.returns-in-Ok-Show
 returns-in-Ok-Show g c =
@@ -70,11 +131,14 @@ returns-in-Ok-Show g c =
       only_usage = λ usage. absurd (shown.no_usage (sym end.cause ∙ usage));
       promises = record {
         idle = λ none. absurd (none_no_call (call_in c.args.words.now) (Show c.in-Ok-Show.partitions) none is);
-        answers = λ tells options asked. absurd (run_no_show (call_in c.args.words.now) options c.in-Ok-Show.partitions asked is);
-        untouched = λ options asked. absurd (run_no_show (call_in c.args.words.now) options c.in-Ok-Show.partitions asked is);
-        refused = λ tells options asked. absurd (run_no_show (call_in c.args.words.now) options c.in-Ok-Show.partitions asked is);
+        answers = λ tells options asked. absurd (run_no_show (call_in c.args.words.now) options c.in-Ok-Show.partitions asked.0 is);
+        untouched = λ options asked. absurd (run_no_show (call_in c.args.words.now) options c.in-Ok-Show.partitions asked.0 is);
+        refused = λ tells options asked. absurd (run_no_show (call_in c.args.words.now) options c.in-Ok-Show.partitions asked.0 is);
         settles_nothing = λ settles. end.trail ∙ c.none.ensures;
-        headline = λ tells options asked. absurd (run_no_show (call_in c.args.words.now) options c.in-Ok-Show.partitions asked is);
+        headline = λ tells options asked. absurd (run_no_show (call_in c.args.words.now) options c.in-Ok-Show.partitions asked.0 is);
+        comes = λ tells options asked. absurd (run_no_show (call_in c.args.words.now) options c.in-Ok-Show.partitions asked.0 is);
+        keeps = λ options asked. absurd (run_no_show (call_in c.args.words.now) options c.in-Ok-Show.partitions asked.0 is);
+        unfit = λ tells options asked. absurd (run_no_show (call_in c.args.words.now) options c.in-Ok-Show.partitions asked.0 is);
         shows = λ tells partitions asked.
             let same : c.in-Ok-Show.partitions ≡ partitions = show_same (call_in c.args.words.now) c.in-Ok-Show.partitions partitions is asked in
             subst (λ (n : ℕ). ShowsAs (λ file. content_of file old) n (tape old) (tape (g.V.Site.history c.end_with.result.site)) c.end_with.result.cause) same
@@ -106,11 +170,14 @@ returns-in-Err-Usage g c =
       only_usage = λ usage. is;
       promises = record {
         idle = λ none. ap g.V.Site.history end.site;
-        answers = λ tells options asked. absurd (none_no_call (call_in c.args.words.now) (Run options) is asked);
-        untouched = λ options asked. absurd (none_no_call (call_in c.args.words.now) (Run options) is asked);
-        refused = λ tells options asked. absurd (none_no_call (call_in c.args.words.now) (Run options) is asked);
+        answers = λ tells options asked. absurd (none_no_call (call_in c.args.words.now) (Run options) is asked.0);
+        untouched = λ options asked. absurd (none_no_call (call_in c.args.words.now) (Run options) is asked.0);
+        refused = λ tells options asked. absurd (none_no_call (call_in c.args.words.now) (Run options) is asked.0);
         settles_nothing = λ settles. end.trail ∙ c.none-in-Err-Usage.ensures;
-        headline = λ tells options asked. absurd (none_no_call (call_in c.args.words.now) (Run options) is asked);
+        headline = λ tells options asked. absurd (none_no_call (call_in c.args.words.now) (Run options) is asked.0);
+        comes = λ tells options asked. absurd (none_no_call (call_in c.args.words.now) (Run options) is asked.0);
+        keeps = λ options asked. absurd (none_no_call (call_in c.args.words.now) (Run options) is asked.0);
+        unfit = λ tells options asked. absurd (none_no_call (call_in c.args.words.now) (Run options) is asked.0);
         shows = λ tells partitions asked. absurd (none_no_call (call_in c.args.words.now) (Show partitions) is asked);
         writes_nothing = λ partitions asked. absurd (none_no_call (call_in c.args.words.now) (Show partitions) is asked);
       };
@@ -148,6 +215,9 @@ returns-in-Err-Memory g c =
               nothing = c.end_with-in-Err-Memory.ensures.trail ∙ c.none-in-Err-Memory.ensures;
               opening = subst (λ site. Always (IsOpening job entries old) old (g.V.Site.history site)) (sym site_is) (opening_first job entries old (λ f. g.met.V.Site.inside c.args.site f told));
             });
+        comes = λ tells options asked. inl (record { why = subst (RefusesInput (refusal_of options.partitions options.nodes (λ file. content_of file old))) (sym end.cause) tt; same = ap g.V.Site.history end.site; nothing = end.trail ∙ c.none-in-Err-Memory.ensures });
+        keeps = λ options asked. subst (KeepsFiles options.partitions old now) (sym end.cause) tt;
+        unfit = λ tells options asked unfit. record { syncs = (0, omega arith, inl (ap g.V.Site.history end.site)); nothing = end.trail ∙ c.none-in-Err-Memory.ensures };
         shows = λ tells partitions asked. subst (ShowsAs (λ file. content_of file old) partitions (tape old) (tape now)) (sym end.cause) (inl (ap (λ site. tape (g.V.Site.history site)) end.site));
         writes_nothing = λ partitions asked. record { mid = g.V.Site.history c.args.site; syncs = (0, omega arith, inl refl); files = λ file. ap (λ site. changes_of file (g.V.Site.history site)) c.end_with-in-Err-Memory.ensures.site };
       };

@@ -8,7 +8,8 @@ use Rattle.engine_run.specs.Ends.{terms_of}
 use Rattle.engine_run.specs.Rounds.{IsLateCause}
 use Rattle.engine_run.proofs.Ending.{wanting_early}
 use Rattle.engine_run.specs.Headline.{RunsOn, Headline}
-use Rattle.engine_run.specs.Job.{Job, AreGivenIn}
+use Rattle.cluster_run.specs.Asked.{Job}
+use Rattle.engine_run.specs.Job.{AreGivenIn}
 use Rattle.engine_run.specs.Opened.{IsOpening}
 use Rattle.engine_run.specs.Prepared.{job_of, IsEarlyCause}
 use Rattle.engine_run.proofs.Asked.{same_job, same_entries, same_state}

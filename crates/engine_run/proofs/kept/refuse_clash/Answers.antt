@@ -1,4 +1,4 @@
-use Rattle.engine_run.proofs.Found.{none_then}
+use Rattle.client_order.proofs.Found.{none_then}
 use Rattle.engine_run.proofs.kept.refuse_clash.Goals as goal
 
 pub returns-in-Ok-None-clause-ok : goal.returns-in-Ok-None-clause-ok

@@ -5,14 +5,15 @@ use Rattle.commit_log.specs.States.{IsFormatting}
 use Rattle.dura_value.specs.declared.messages.Request.{Request as OwnRequest}
 use Rattle.engine_run.specs.Alone.{OnlySyncs, both_synced}
 use Rattle.engine_run.specs.Causes.{CauseHolds, Untouched}
-use Rattle.engine_run.specs.Job.{Job, FilesKeep}
+use Rattle.cluster_run.specs.Asked.{Job}
+use Rattle.engine_run.specs.Job.{FilesKeep}
 use Rattle.engine_run.specs.Kept.{NoClash, RefusesKept}
 use Rattle.engine_run.specs.Opened.{IsOpening, OpensOnly}
 use Rattle.engine_run.specs.Opening.{RecoversAs}
 use Rattle.engine_run.specs.Prepared.{IsEarlyCause}
 use Rattle.engine_run.proofs.Asked.{same_job, same_entries}
 use Rattle.engine_run.proofs.Early.{ok_same, err_same, residual_err, residual_same, input_answers, input_early, input_untouched, log_early, clash_early, clash_untouched}
-use Rattle.engine_run.proofs.Found.{some_with}
+use Rattle.client_order.proofs.Found.{some_with}
 use Rattle.engine_run.proofs.Opens.{opening_first, opening_synced, first_kept}
 use Rattle.engine_run.proofs.Preparing.{opened_from, opens_from}
 use Rattle.engine_run.proofs.Refusing.{not_recovered, clash_refused, logs_untouched, ready, not_refused}
@@ -40,7 +41,7 @@ returns-in_err-state-clause-answers g c tells =
     let old = g.V.Site.history c.args.site.now in
     let file = c.in_ok-file.field-0.file in
     let job : Job = record { flows = flows_of file.flows; digest = file.digest; requests = map request_of c.in_ok-file.field-0.requests.items } in
-    let asks = c.in_ok-file.ensures.reads (c.recover_logs.ensures.tells tells) in
+    let asks = (c.in_ok-file.ensures.reads (c.recover_logs.ensures.tells tells)).0 in
     let recovers = subst (λ (s : List Step). RecoversAs (flows_of file.flows) file.digest (λ f. content_of f s) (Err c.in_err-state.field-0.0)) c.read_input.ensures.unchanged (c.in_err-state.ensures.recovers tells) in
     let p = err_from_is_err_and c.from_residual-in_err-state.result c.from_residual-in_err-state.ensures.1 in
     rw (p.1, p.2) (not_recovered (λ f. content_of f old) job c.in_err-state.field-0.0 c.in_err-state.ensures.early asks recovers)
@@ -67,7 +68,7 @@ returns-in-Err-clause-answers g c tells =
     let requests = c.in_ok-file.field-0.requests.items in
     let found = c.in_ok-state.field-0 in
     let job : Job = record { flows = flows_of file.flows; digest = file.digest; requests = map request_of requests } in
-    let asks = c.in_ok-file.ensures.reads (c.recover_logs.ensures.tells tells) in
+    let asks = (c.in_ok-file.ensures.reads (c.recover_logs.ensures.tells tells)).0 in
     let recovered = subst (λ (s : List Step). RecoversAs (flows_of file.flows) file.digest (λ f. content_of f s) (Ok found)) c.read_input.ensures.unchanged (c.in_ok-state.ensures.recovers tells) in
     let keeps : FilesKeep job (λ f. content_of f old) recovered.entries (state_of found.state) = record { kept = recovered.kept; made = recovered.placed } in
     let clash = subst (λ (rs : List OwnRequest). RefusesKept (state_of found.state) (map request_of rs) c.in-Err.cause) c.deref.ensures.value c.in-Err.ensures.err in
@@ -88,7 +89,7 @@ returns-in-Err-open_log-clause-opens g c tells job asks =
     let found = c.in_ok-state.field-0 in
     let own : Job = record { flows = flows_of file.flows; digest = file.digest; requests = map request_of c.in_ok-file.field-0.requests.items } in
     let tells_then = c.open_log.ensures.tells tells in
-    let asked = c.in_ok-file.ensures.reads (c.recover_logs.ensures.tells tells_then) in
+    let asked = (c.in_ok-file.ensures.reads (c.recover_logs.ensures.tells tells_then)).0 in
     let recovered = subst (λ (s : List Step). RecoversAs (flows_of file.flows) file.digest (λ f. content_of f s) (Ok found)) c.read_input.ensures.unchanged (c.in_ok-state.ensures.recovers tells_then) in
     let synced = c.in_ok-state.ensures.synced ∙ ap both_synced c.read_input.ensures.unchanged in
     let none = c.in-Err-open_log.ensures.stops.0 in
@@ -134,7 +135,7 @@ returns-clause-opens g c tells job asks =
     let found = c.in_ok-state.field-0 in
     let own : Job = record { flows = flows_of file.flows; digest = file.digest; requests = map request_of c.in_ok-file.field-0.requests.items } in
     let tells_then = c.open_log.ensures.tells tells in
-    let asked = c.in_ok-file.ensures.reads (c.recover_logs.ensures.tells tells_then) in
+    let asked = (c.in_ok-file.ensures.reads (c.recover_logs.ensures.tells tells_then)).0 in
     let recovered = subst (λ (s : List Step). RecoversAs (flows_of file.flows) file.digest (λ f. content_of f s) (Ok found)) c.read_input.ensures.unchanged (c.in_ok-state.ensures.recovers tells_then) in
     let synced = c.in_ok-state.ensures.synced ∙ ap both_synced c.read_input.ensures.unchanged in
     let kept = subst (λ (s : List Step). IsKept (changes_of 16 s)) (sym synced) (first_kept old) in
@@ -240,7 +241,7 @@ pub returns-clause-say_faults : goal.returns-clause-say_faults
 returns-clause-say_faults g c = c.open_log.ensures.say_faults ∙ c.recover_logs.ensures.say_faults ∙ c.read_input.ensures.say_faults
 
 pub returns-clause-asks : goal.returns-clause-asks
-returns-clause-asks g c = λ tells. c.in_ok-file.ensures.reads (c.recover_logs.ensures.tells (c.open_log.ensures.tells tells))
+returns-clause-asks g c = λ tells. (c.in_ok-file.ensures.reads (c.recover_logs.ensures.tells (c.open_log.ensures.tells tells))).0
 
 pub returns-clause-can : goal.returns-clause-can
 returns-clause-can g c = record { sound = c.in_ok-state.ensures.begins.sound; alone = c.in_ok-state.ensures.begins.alone; younger = c.in_ok-state.ensures.begins.younger; young = c.in_ok-state.ensures.begins.young; counted = c.in_ok-state.ensures.begins.counted }
@@ -274,7 +275,7 @@ returns-in-Err-open_log-clause-refused g c = λ tells refused.
     let found = c.in_ok-state.field-0 in
     let job : Job = record { flows = flows_of file.flows; digest = file.digest; requests = map request_of requests } in
     let tells_then = c.open_log.ensures.tells tells in
-    let asks = c.in_ok-file.ensures.reads (c.recover_logs.ensures.tells tells_then) in
+    let asks = (c.in_ok-file.ensures.reads (c.recover_logs.ensures.tells tells_then)).0 in
     let recovered = subst (λ (s : List Step). RecoversAs (flows_of file.flows) file.digest (λ f. content_of f s) (Ok found)) c.read_input.ensures.unchanged (c.in_ok-state.ensures.recovers tells_then) in
     absurd (not_refused (λ f. content_of f old)
     (ready (λ f. content_of f old) job recovered.entries (state_of found.state) asks (record { kept = recovered.kept; made = recovered.placed })
@@ -289,7 +290,7 @@ returns-clause-refused g c = λ tells refused.
     let found = c.in_ok-state.field-0 in
     let job : Job = record { flows = flows_of file.flows; digest = file.digest; requests = map request_of requests } in
     let tells_then = c.open_log.ensures.tells tells in
-    let asks = c.in_ok-file.ensures.reads (c.recover_logs.ensures.tells tells_then) in
+    let asks = (c.in_ok-file.ensures.reads (c.recover_logs.ensures.tells tells_then)).0 in
     let recovered = subst (λ (s : List Step). RecoversAs (flows_of file.flows) file.digest (λ f. content_of f s) (Ok found)) c.read_input.ensures.unchanged (c.in_ok-state.ensures.recovers tells_then) in
     absurd (not_refused (λ f. content_of f old)
     (ready (λ f. content_of f old) job recovered.entries (state_of found.state) asks (record { kept = recovered.kept; made = recovered.placed })

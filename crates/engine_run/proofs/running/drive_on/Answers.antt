@@ -1,5 +1,6 @@
 use Rattle.std.proofs.Common.{◌≢◌, ◌∙◌, ◌≤◌, ℕ, List, [], Err, refl, sym, ap, subst}
-use Rattle.engine_run.specs.Rounds.{RoundsEnd, IsLateCause, IsRestCause}
+use Rattle.cluster_run.specs.Causes.{IsRestCause}
+use Rattle.engine_run.specs.Rounds.{RoundsEnd, IsLateCause}
 use Rattle.engine_run.proofs.Early.{differ, one_some, same_err}
 use Rattle.engine_run.proofs.Ending.{at_rest, rest_ends, rest_late, stop_ends, stop_late, other_stop, site_stop, say_stop, clock_stop, memory_no_site, memory_no_say, memory_no_clock, stamp_above}
 use Rattle.engine_run.proofs.running.drive_on.Goals as goal

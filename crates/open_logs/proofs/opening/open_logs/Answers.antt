@@ -1,9 +1,14 @@
-use Rattle.std.proofs.Common.{ℕ, List, Some, None, sym, subst}
+use Rattle.std.proofs.Common.{ℕ, List, length, map, Some, None, sym, subst}
+use Rattle.client_order.specs.Clashes.{taken_in, NoClash}
+use Rattle.part_steps.specs.States.{parts_in}
+use Rattle.part_steps.specs.declared.state.PartState.{PartState}
+use Rattle.request_reader.specs.Line.{request_of}
 use Rattle.open_logs.specs.Moments.{KeepsAll}
 use Rattle.open_logs.specs.Ready.{AllReady, HasOpened}
 use Rattle.open_logs.specs.Spent.{IsFirstSpent, IsSpent}
 use Rattle.open_logs.proofs.Comes.{can_begin, is_made, all_opened, only_synced, opens_only, is_used_up, refused_synced, outside_synced}
 use Rattle.open_logs.proofs.Found.{all_ready}
+use Rattle.open_logs.proofs.Refusing.{accepted}
 use Rattle.open_logs.proofs.opening.open_logs.Goals as goal
 use Rattle.recover_core.specs.Recovering.{AllRest}
 use Rattle.recover_core.specs.declared.ending.Life.{Life}
@@ -93,3 +98,41 @@ returns-in-Err-clause-synced g c = refused_synced c.args.count (g.V.Site.history
 
 pub returns-in-Err-open_each-clause-synced : goal.returns-in-Err-open_each-clause-synced
 returns-in-Err-open_each-clause-synced g c = outside_synced c.args.count (g.V.Site.history c.args.site.now) (g.V.Site.history c.open_each.new.site) c.in-Err-open_each.error c.in-Err-open_each.ensures.stops
+
+pub returns-in_err-refuse_clash-clause-during : goal.returns-in_err-refuse_clash-clause-during
+returns-in_err-refuse_clash-clause-during g c tells =
+    only_synced (g.R.Reactions.flows c.args.reactions.now) c.args.count c.args.digest (g.V.Site.history c.args.site.now) (g.V.Site.history c.recover.new.site)
+    (λ f. g.met.V.Site.inside c.args.site.now f (c.recover.ensures.tells tells)) c.recover.ensures.syncs
+
+pub returns-clause-accepts : goal.returns-clause-accepts
+returns-clause-accepts g c tells why =
+    let opened = c.in-Ok.opened in
+    let can = c.in-Ok.ensures.begins in
+    let requests = map request_of c.args.requests.now in
+    let deref = c.deref-2.ensures.value in
+    let none = subst (λ (l : List PartState). NoClash (taken_in (length l) (parts_in l)) requests) deref c.in_ok-refuse_clash.ensures.ok in
+    let no_clash = subst (λ (n : ℕ). NoClash (taken_in n (parts_in opened.states.items)) requests) can.many none in
+    (accepted (g.R.Reactions.flows c.args.reactions.now) c.args.count c.args.digest (λ file. content_of file (g.V.Site.history c.args.site.now)) opened (c.in-Ok.ensures.opens (c.open_each.ensures.tells tells)) can.lives
+    (subst (λ (l : List Life). IsFirstSpent l None) c.deref.ensures.value c.in_default.ensures) requests no_clash why.0 why.1 why.2)
+
+pub returns-clause-clean : goal.returns-clause-clean
+returns-clause-clean g c tells why =
+    let opened = c.in-Ok.opened in
+    let can = c.in-Ok.ensures.begins in
+    let requests = map request_of c.args.requests.now in
+    let deref = c.deref-2.ensures.value in
+    let none = subst (λ (l : List PartState). NoClash (taken_in (length l) (parts_in l)) requests) deref c.in_ok-refuse_clash.ensures.ok in
+    let no_clash = subst (λ (n : ℕ). NoClash (taken_in n (parts_in opened.states.items)) requests) can.many none in
+    absurd (accepted (g.R.Reactions.flows c.args.reactions.now) c.args.count c.args.digest (λ file. content_of file (g.V.Site.history c.args.site.now)) opened (c.in-Ok.ensures.opens (c.open_each.ensures.tells tells)) can.lives
+    (subst (λ (l : List Life). IsFirstSpent l None) c.deref.ensures.value c.in_default.ensures) requests no_clash why.0 why.1 why.2)
+
+pub returns-in-Err-open_each-clause-clean : goal.returns-in-Err-open_each-clause-clean
+returns-in-Err-open_each-clause-clean g c tells why =
+    let opened = c.in-Ok.opened in
+    let can = c.in-Ok.ensures.begins in
+    let requests = map request_of c.args.requests.now in
+    let deref = c.deref-2.ensures.value in
+    let none = subst (λ (l : List PartState). NoClash (taken_in (length l) (parts_in l)) requests) deref c.in_ok-refuse_clash.ensures.ok in
+    let no_clash = subst (λ (n : ℕ). NoClash (taken_in n (parts_in opened.states.items)) requests) can.many none in
+    absurd (accepted (g.R.Reactions.flows c.args.reactions.now) c.args.count c.args.digest (λ file. content_of file (g.V.Site.history c.args.site.now)) opened (c.in-Ok.ensures.opens (c.open_each.ensures.tells tells)) can.lives
+    (subst (λ (l : List Life). IsFirstSpent l None) c.deref.ensures.value c.in_default.ensures) requests no_clash why.0 why.1 why.2)

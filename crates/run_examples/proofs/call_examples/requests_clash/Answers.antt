@@ -3,7 +3,7 @@ use Rattle.std.proofs.lemmas.List.Elements.{All-from_recursion}
 use Rattle.dura_model.specs.Partition.{fresh}
 use Rattle.run_examples.specs.Calls.{starting, waiting}
 use Rattle.engine_run.specs.Kept.{clashes}
-use Rattle.engine_run.specs.Order.{no_later}
+use Rattle.client_order.specs.Order.{no_later}
 use Rattle.run_examples.proofs.call_examples.requests_clash.Goals as goal
 use Rattle.run_rules.specs.Examples.{request_taken}
 use Rattle.request_reader.specs.Line.{Request}

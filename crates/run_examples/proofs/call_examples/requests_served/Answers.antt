@@ -4,7 +4,7 @@ use Rattle.dura_model.specs.Legal.{Quiet, is_due}
 use Rattle.dura_model.specs.Partition.{fresh}
 use Rattle.dura_model.specs.World.{World, empty}
 use Rattle.dura_value.specs.Messages.{Message}
-use Rattle.engine_run.specs.Order.{no_later}
+use Rattle.client_order.specs.Order.{no_later}
 use Rattle.engine_run.specs.Served.{has_answer, first_open, IsServed, IsFirstOpen}
 use Rattle.part_items.specs.Examples.{request}
 use Rattle.dura_model.specs.Entries.{shown_by}

@@ -6,7 +6,7 @@ use Rattle.dura_model.specs.Partition.{Partition, fresh}
 use Rattle.dura_value.specs.Ids.{client}
 use Rattle.dura_value.specs.Messages.{was_started}
 use Rattle.engine_run.specs.Ends.{next_untold}
-use Rattle.engine_run.specs.Order.{no_later}
+use Rattle.client_order.specs.Order.{no_later}
 use Rattle.hub_store.specs.Examples.{MayFollow, MaySay}
 use Rattle.hub_store.specs.Moments.{SaidSoFar}
 use Rattle.hub_store.specs.Moments.SaidSoFar.{silent, settles, says}

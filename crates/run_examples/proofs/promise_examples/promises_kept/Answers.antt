@@ -1,4 +1,5 @@
 use Rattle.std.proofs.Common.{◌≡◌, ◌∙◌, inl, inr, [], ◌∷◌, Option, Some, None, refl, sym, ap, subst}
+use Rattle.cluster_run.proofs.Ends.{never_usage}
 use Rattle.command_words.specs.declared.words.Call.{Call}
 use Rattle.engine_run.specs.Causes.{SettlesNothing}
 use Rattle.run_causes.specs.declared.cause.Cause.TheVariants.{Usage}
@@ -14,11 +15,14 @@ no_call asked call none some = cc
 pub returns-clause-nothing : goal.returns-clause-nothing
 returns-clause-nothing c = λ words none. record {
   idle = λ is. refl;
-  answers = λ tells options is. absurd (no_call _ _ none is);
-  untouched = λ options is. absurd (no_call _ _ none is);
-  refused = λ tells options is. absurd (no_call _ _ none is);
+  answers = λ tells options is. absurd (no_call _ _ none is.0);
+  untouched = λ options is. absurd (no_call _ _ none is.0);
+  refused = λ tells options is. absurd (no_call _ _ none is.0);
   settles_nothing = λ is. refl;
-  headline = λ tells options is. absurd (no_call _ _ none is);
+  headline = λ tells options is. absurd (no_call _ _ none is.0);
+  comes = λ tells options is. absurd (no_call _ _ none is.0);
+  keeps = λ options is. absurd (no_call _ _ none is.0);
+  unfit = λ tells options is. absurd (no_call _ _ none is.0);
   shows = λ tells partitions is. absurd (no_call _ _ none is);
   writes_nothing = λ partitions is. absurd (no_call _ _ none is);
 }
@@ -43,6 +47,16 @@ returns-clause-unread c = λ words options old job entries begin is asks kept gi
   | inl runs ↦ nothing_unread _ 0 runs.told runs.in_time
   | inr early ↦ let same = early.nothing in cc same
 ]
+
+pub returns-clause-touched_over : goal.returns-clause-touched_over
+returns-clause-touched_over c = λ words options is keeps. let same = keeps.keeps options is in cc same
+
+pub returns-clause-unfit : goal.returns-clause-unfit
+returns-clause-unfit c = λ words options old is unfit keeps. let same = (keeps.unfit tt options is unfit).nothing in cc same
+
+-- no run ends with a fault of the words
+pub returns-clause-nothing_over : goal.returns-clause-nothing_over
+returns-clause-nothing_over c = λ words options is keeps. never_usage options _ _ _ _ _ _ (keeps.comes tt options is)
 
 pub returns-clause-waiting : goal.returns-clause-waiting
 returns-clause-waiting c = λ words partitions is keeps. keeps.shows tt partitions is

@@ -1,7 +1,7 @@
 use Rattle.std.proofs.Common.{◌≡◌, true, false, [], ◌∷◌, codes, refl, arith}
 use Rattle.std.proofs.lemmas.List.Elements.{All-from_recursion, All-contains}
 use Rattle.engine_run.specs.Kept.{clashes}
-use Rattle.engine_run.specs.Order.{no_later}
+use Rattle.client_order.specs.Order.{no_later}
 use Rattle.request_reader.specs.Line.{Request}
 use Rattle.run_examples.specs.Calls.{waiting, waiting_too, both_taken}
 use Rattle.run_examples.proofs.refusal_examples.first_clashes.Goals as goal

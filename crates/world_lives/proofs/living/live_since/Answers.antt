@@ -1,10 +1,14 @@
-use Rattle.std.proofs.Common.{ℕ, false, List, [], refl, sym, subst}
+use Rattle.std.proofs.Common.{◌≡◌, ◌∙◌, ℕ, false, List, [], Err, Option, Some, IfSome, refl, sym, ap, subst}
 use Rattle.call_begins.proofs.Going.{has_begun}
 use Rattle.hub_store.specs.Trail.{settled_at}
 use Rattle.open_logs.proofs.KeptRun.{kept_by_other, same_own}
 use Rattle.open_logs.proofs.Picked.{origin_is}
 use Rattle.open_logs.specs.Begun.{AreTheirs}
 use Rattle.open_logs.specs.Picks.{files_of, origin_of}
+use Rattle.open_logs.specs.declared.error.OpenError.{OpenError}
+use Rattle.open_logs.specs.declared.error.OpenError.TheVariants as refusals
+use Rattle.recover_core.specs.declared.error.RecoverError.TheVariants as errors
+use Rattle.site_model.specs.Calls.{HasRisen}
 use Rattle.order_laws.proofs.Stands.{order_stands}
 use Rattle.part_steps.specs.States.{parts_in}
 use Rattle.site_model.specs.History.{Step, back_to, content_of}
@@ -59,3 +63,14 @@ returns-in-Ok-clause-lived g c = λ none.
                 kept.below (λ partition low. same_own shape.count shape.digest before run other made.0.below kept.below (theirs told) kept.kept partition) kept.made on.1,
           );
     }
+
+pub returns-in-Err-clause-fault : goal.returns-in-Err-clause-fault
+returns-in-Err-clause-fault g c = λ refused.
+    let is : Some c.in-Err.error ≡ Some (refusals.Refused errors.SiteFault) = sym c.refused_by.ensures.refused ∙ refused in
+    let same : c.in-Err.error ≡ refusals.Refused errors.SiteFault = cc is in
+    subst (λ site. HasRisen (g.V.Site.disk_faults c.args.site) (g.V.Site.disk_faults site)) (sym c.refused_by.ensures.site) (c.open_logs.ensures.fault (c.in-Err.is ∙ ap Err same))
+
+pub returns-in-Ok-clause-fault : goal.returns-in-Ok-clause-fault
+returns-in-Ok-clause-fault g c = λ refused.
+    let wrong : refusals.Refused errors.SiteFault ≡ refusals.Refused errors.Memory = subst (λ (o : Option OpenError). IfSome o (λ e. e ≡ refusals.Refused errors.Memory)) refused c.live_named.ensures.memory in
+    absurd (cc wrong)

@@ -1,0 +1,3 @@
+pub mod Clashes
+pub mod Order
+pub mod Unsaid

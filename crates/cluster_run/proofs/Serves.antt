@@ -1,0 +1,91 @@
+-- What serving clients comes to, as a run has it.
+use Rattle.std.proofs.Common.{◌≡◌, ◌≢◌, ◌⊎◌, ◌∙◌, inl, inr, ℕ, List, [], Option, Some, None, refl, sym, subst}
+use Rattle.std.specs.Prelude.{IfSome}
+use Rattle.client_port.specs.Ports.{Queue}
+use Rattle.cluster_run.specs.Asked.{Asks, Job}
+use Rattle.cluster_run.specs.Causes.{WentBy}
+use Rattle.cluster_run.specs.Comes.{LeavesLogs, NotOpened, WasServed}
+use Rattle.command_words.specs.declared.words.RunOptions.{RunOptions}
+use Rattle.engine_rounds.specs.Served.{IsServed, refusal_in}
+use Rattle.engine_rounds.specs.declared.serving.Came.{Came}
+use Rattle.engine_rounds.specs.declared.serving.Came.TheVariants as cames
+use Rattle.flow_syntax.specs.Syntax.{Flows}
+use Rattle.hub_store.specs.Trail.{Settled}
+use Rattle.log_files.specs.Fronts.{AreSyncs}
+use Rattle.node_core.specs.Halts.{IsPast}
+use Rattle.node_core.specs.declared.halt.Halt.{Halt}
+use Rattle.open_logs.specs.Moments.{OpensOnly}
+use Rattle.open_logs.specs.Spent.{AreRefused, OnlySynced, WhyUnopened}
+use Rattle.open_logs.specs.declared.error.OpenError.{OpenError}
+use Rattle.run_causes.specs.declared.cause.Cause.{Cause}
+use Rattle.site_model.specs.History.{Step, content_of}
+
+-- input files ask for one job
+pub same_job : (partitions nodes : ℕ) (files : ℕ → List ℕ) (a b : Job) → Asks partitions nodes files a → Asks partitions nodes files b → a ≡ b
+same_job partitions nodes files a b one two =
+    let flows : a.flows ≡ b.flows = cc (one.flows_in_file, two.flows_in_file) in
+    let requests : a.requests ≡ b.requests = cc (one.requests_in_file, two.requests_in_file) in
+    let digest : a.digest ≡ b.digest = one.digest_of_file ∙ sym two.digest_of_file in
+    λ i. record { flows = flows i; digest = digest i; requests = requests i }
+
+some_refusal : (error : OpenError) → Some error ≢ None
+some_refusal error is = cc is
+
+moved : (P : Flows → ℕ → ℕ → Type 0) (a b : Flows) (m n d e : ℕ) → a ≡ b → m ≡ n → d ≡ e → P a m d → P b n e
+moved P a b m n d e is so too p = subst (λ (x : Flows). P x n e) is (subst (λ (x : ℕ). P a x e) so (subst (λ (x : ℕ). P a m x) too p))
+
+-- a call by these flows, partitions and digest is one for the job
+module _ (options : RunOptions) (job : Job) (flows : Flows) (count digest : ℕ) (flows_are : flows ≡ job.flows) (count_is : count ≡ options.partitions) (digest_is : digest ≡ job.digest) (old new : List Step) (trail : List Settled) where
+  its : (P : Flows → ℕ → ℕ → Type 0) → P flows count digest → P job.flows options.partitions job.digest
+  its P p = moved P flows job.flows count options.partitions digest job.digest flows_are count_is digest_is p
+
+  back : (P : Flows → ℕ → ℕ → Type 0) → P job.flows options.partitions job.digest → P flows count digest
+  back P p = moved P job.flows flows options.partitions count job.digest digest (sym flows_are) (sym count_is) (sym digest_is) p
+
+  pub came_to : (segment steps latest : ℕ) (tells : Type 0) (came : Came) (port : Option (List Queue)) (cause : Cause) → segment ≡ options.segment → steps ≡ options.steps → WentBy came port cause → Asks options.partitions options.nodes (λ file. content_of file old) job
+      → (refusal_in came ≢ None → trail ≡ []) → (refusal_in came ≢ None → OpensOnly flows count digest old new) → IfSome (refusal_in came) (WhyUnopened flows count digest (λ file. content_of file old) job.requests) → IfSome (refusal_in came) (OnlySynced count old new)
+      → (refusal_in came ≡ None → IsServed flows count digest segment steps job.requests latest tells old new trail came port) → ((halt : Halt) → came ≡ cames.Halted halt → IsPast segment halt)
+      → NotOpened options (λ file. content_of file old) old new trail cause ⊎ WasServed options (λ file. content_of file old) latest tells old new trail cause
+  came_to segment steps latest tells (cames.Refused error) port cause segment_is steps_are by asks nothing opening why synced served past =
+      inl (record {
+        job = job;
+        asks = asks;
+        error = error;
+        cause_is = by;
+        why = its (λ f n d. WhyUnopened f n d (λ file. content_of file old) job.requests error) why;
+        synced = its (λ f n d. OnlySynced n old new error) synced;
+        opening = its (λ f n d. OpensOnly f n d old new) (opening (some_refusal error));
+        nothing = nothing (some_refusal error);
+      })
+  came_to segment steps latest tells (cames.Halted halt) port cause segment_is steps_are by asks nothing opening why synced served past =
+      inr (record {
+        job = job;
+        asks = asks;
+        came = cames.Halted halt;
+        port = port;
+        went = refl;
+        served = subst (λ (s : ℕ). IsServed job.flows options.partitions job.digest s options.steps job.requests latest tells old new trail (cames.Halted halt) port) segment_is
+            (subst (λ (s : ℕ). IsServed job.flows options.partitions job.digest segment s job.requests latest tells old new trail (cames.Halted halt) port) steps_are
+            (its (λ f n d. IsServed f n d segment steps job.requests latest tells old new trail (cames.Halted halt) port) (served refl)));
+        cause_by = by;
+        past = λ other is. subst (λ (s : ℕ). IsPast s other) segment_is (past other is);
+      })
+  came_to segment steps latest tells (cames.Ended end) port cause segment_is steps_are by asks nothing opening why synced served past =
+      inr (record {
+        job = job;
+        asks = asks;
+        came = cames.Ended end;
+        port = port;
+        went = refl;
+        served = subst (λ (s : ℕ). IsServed job.flows options.partitions job.digest s options.steps job.requests latest tells old new trail (cames.Ended end) port) segment_is
+            (subst (λ (s : ℕ). IsServed job.flows options.partitions job.digest segment s job.requests latest tells old new trail (cames.Ended end) port) steps_are
+            (its (λ f n d. IsServed f n d segment steps job.requests latest tells old new trail (cames.Ended end) port) (served refl)));
+        cause_by = by;
+        past = λ other is. subst (λ (s : ℕ). IsPast s other) segment_is (past other is);
+      })
+
+  -- files that are to be refused are left
+  pub leaves : AreRefused job.flows options.partitions job.digest (λ file. content_of file old) job.requests → (AreRefused flows count digest (λ file. content_of file old) job.requests → AreSyncs count old new × (trail ≡ [])) → LeavesLogs options.partitions old new trail
+  leaves refused clean =
+      let both = clean (back (λ f n d. AreRefused f n d (λ file. content_of file old) job.requests) refused) in
+      record { syncs = its (λ f n d. AreSyncs n old new) both.0; nothing = both.1 }

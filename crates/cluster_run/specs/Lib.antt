@@ -1,0 +1,4 @@
+pub mod Asked
+pub mod Causes
+pub mod Comes
+pub mod Faults
