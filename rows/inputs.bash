@@ -33,15 +33,17 @@ trial_input_limit() {
     refused 'a plan that is too long' 2 'too long 2' "$work/d" run
 }
 
-# Words that the command doesn't take. A run is of one partition, so far.
+# Words that the command doesn't take.
 trial_usage_of_options() {
     local words
     fresh d
     for words in 'walk' 'stop' 'run d' 'run --help' 'run -h' '--version' 'help run' '--partitions 1 run' 'run show' \
-        'run --partitions 0' 'run --partitions 2' 'run --partitions 33' 'run --partitions 01' 'run --partitions +1' \
+        'run --partitions 0' 'run --partitions 33' 'run --partitions 01' 'run --partitions +1' \
         'run --partitions -1' 'run --partitions 1.0' 'run --partitions one' 'run --partition 1' 'run --partitions 1 --partitions 1' \
         'run --batch 0' 'run --batch 65' 'run --batch 08' 'run --steps 0' 'run --steps 1048577' 'run --segment 4095' \
         'run --segment 2147483649' 'run --segment 99999999999999999999' 'run --batch' 'run --size 4' \
+        'run --nodes 0' 'run --nodes 9' 'run --mode fast' 'run --mode Global' 'run --mode' 'run --seed 4294967296' 'run --seed -1' \
+        'run --twice 101' 'run --drop 101' 'run --hold 101' 'run --hold 01' 'show --nodes 1' 'show --mode none' \
         'show --batch 1' 'show --partitions 0' 'show --partitions 33' 'show --partitions 02' 'show now'; do
         # shellcheck disable=SC2086
         refused "$words" 1 usage "$work/d" $words
@@ -52,7 +54,8 @@ trial_usage_of_options() {
 # The limits of options are taken.
 trial_limits_of_options() {
     local words
-    for words in '--batch 1' '--batch=64' '--segment 4096' '--segment 2147483648' '--steps 1048576'; do
+    for words in '--batch 1' '--batch=64' '--segment 4096' '--segment 2147483648' '--steps 1048576' '--partitions 32' '--nodes 8' \
+        '--mode none' '--mode local' '--mode=global' '--seed 4294967295' '--twice 100' '--drop 100' '--hold 100' '--nodes 1 --partitions 1'; do
         fresh d
         # shellcheck disable=SC2086
         same "$words" "$SUM." "$("$program" "$work/d" run $words 2>&1; printf .)"
@@ -142,8 +145,8 @@ trial_limits_of_lists() {
         printf '{"classes":{"C":{"init":%s,"ops":{}}}}' "$list" >"$work/d/flows.json"
         rm -f -- "$work/d/p00.log0"
         case $wanted in
-        read) same "$count of $size and $last" "a 1 value $list" "$("$program" "$work/d" run 2>&1)" ;;
-        *) refused "$count of $size and $last" 2 "flows shape $wanted" "$work/d" run ;;
+        read) same "$count of $size and $last" "a 1 value $list" "$("$program" "$work/d" run --partitions 1 2>&1)" ;;
+        *) refused "$count of $size and $last" 2 "flows shape $wanted" "$work/d" run --partitions 1 ;;
         esac
     done <<'TABLE'
 0 0 4096 read

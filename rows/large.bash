@@ -16,7 +16,7 @@ twice() {
     local what=$1 run
     shift
     for run in first again; do
-        "$program" "$work/d" run "$@" >"$work/stdout" 2>"$work/stderr"
+        "$program" "$work/d" run --partitions 1 "$@" >"$work/stdout" 2>"$work/stderr"
         same "$what, $run: status" 0 $?
         same "$what, $run: reasons" . "$(text_of "$work/stderr")"
         LC_ALL=C sort -s -t ' ' -k 1,1 "$work/stdout" >"$work/said"

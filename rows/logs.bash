@@ -14,7 +14,7 @@ trial_nothing_new_nothing_written() {
 # A directory where nothing was to do holds the log without an entry: these 34 bytes.
 trial_log_of_an_empty_run() {
     of_row empty_run
-    same 'status' . "$("$program" "$work/d" run 2>&1; printf .)"
+    same 'status' . "$("$program" "$work/d" run --partitions 1 2>&1; printf .)"
     same 'the log' 'c34e4554484c4f4701000000000000000108f44b07b5901a25000000000000000000' "$(od -An -tx1 -v "$work/d/p00.log0" | tr -d ' \n')"
 }
 
@@ -22,7 +22,7 @@ trial_log_of_an_empty_run() {
 trial_show_writes_nothing() {
     local before
     fresh d
-    same 'nothing to show' . "$("$program" "$work/d" show 2>&1; printf .)"
+    same 'nothing to show' . "$("$program" "$work/d" show --partitions 1 2>&1; printf .)"
     same 'the files' 'flows.json requests.jsonl ' "$(ls "$work/d" | tr '\n' ' ')"
     sum_runs first "$work/d"
     before=$(stat -c '%s %y' "$work/d/p00.log0"; sha256sum "$work/d/p00.log0")
@@ -40,7 +40,7 @@ trial_log_full() {
     printf '%s\n' '{"flows":{"Calls":[["while",true,[["call","x","echo",0]]]]}}' >"$work/d/flows.json"
     printf '%s\n' '{"client":"a","n":1,"start":"Calls/x"}' '{"client":"a","n":2,"wait":"Calls/x"}' >"$work/d/requests.jsonl"
     for run in first second; do
-        "$program" "$work/d" run --segment 4096 >"$work/stdout" 2>"$work/stderr"
+        "$program" "$work/d" run --partitions 1 --segment 4096 >"$work/stdout" 2>"$work/stderr"
         ended "$run" 12 $? 'full 0' 4096
         same "$run: said" $'a 1 started\n.' "$(text_of "$work/stdout")"
         size=$(stat -c %s "$work/d/p00.log0")
@@ -48,7 +48,7 @@ trial_log_full() {
     done
     rm -- "$work/d/p00.log0"
     printf '{"client":"a","n":1,"start":"Calls/x","arg":"%s"}\n' "$(head -c 4096 /dev/zero | tr '\0' x)" >"$work/d/requests.jsonl"
-    "$program" "$work/d" run --segment 4096 >"$work/stdout" 2>"$work/stderr"
+    "$program" "$work/d" run --partitions 1 --segment 4096 >"$work/stdout" 2>"$work/stderr"
     # 39 bytes around a first frame's payload, 20 of that around its item, 22 of the item around the text's 4,096
     ended 'a long text' 12 $? 'full 0' 4177
     same 'a long text: said' . "$(text_of "$work/stdout")"
@@ -65,8 +65,8 @@ trial_damaged() {
         cp -- "$work/whole" "$work/d/p00.log0"
         printf "\\x$byte" | dd of="$work/d/p00.log0" bs=1 seek="$at" conv=notrunc status=none
         before=$(sha256sum <"$work/d/p00.log0")
-        refused "byte $at" 8 "damaged 16 $place" "$work/d" run
-        refused "byte $at, shown" 8 "damaged 16 $place" "$work/d" show
+        refused "byte $at" 8 "damaged 16 $place" "$work/d" run --partitions 1
+        refused "byte $at, shown" 8 "damaged 16 $place" "$work/d" show --partitions 1
         same "byte $at: the log" "$before" "$(sha256sum <"$work/d/p00.log0")"
     done <<'TABLE'
 3 00 3
@@ -88,13 +88,13 @@ trial_other_logs() {
     fresh d
     sum_runs first "$work/d"
     printf '{}' >"$work/d/flows.json"
-    "$program" "$work/d" run >"$work/stdout" 2>"$work/stderr"
+    "$program" "$work/d" run --partitions 1 >"$work/stdout" 2>"$work/stderr"
     same 'other flows: status' 10 $?
     same 'other flows: line' 'given 08f44b07b5901a25' "$(sed -n '1s/^netherite: digest [0-9a-f]\{16\} /given /p' "$work/stderr")"
     fresh e
     cp -- "$work/d/p00.log0" "$work/e/p00.log0"
     printf '\2' | dd of="$work/e/p00.log0" bs=1 seek=16 conv=notrunc status=none
-    refused 'other partitions' 10 'partitions 2 1' "$work/e" run
+    refused 'other partitions' 10 'partitions 2 1' "$work/e" run --partitions 1
     cp -- "$work/d/p00.log0" "$work/e/p00.log0"
     sum_runs 'the log itself' "$work/e"
 }

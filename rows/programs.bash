@@ -1,18 +1,24 @@
 # Trials, which `rows/run` reads, of whole programs: the examples, one that never ends, a timer by the wall clock, and runs that are killed at
 # random moments.
 
-# Each of these files is a program that says just what its README says, now and again.
+# Each of these files is a program that says just what its README says, now and again, over one partition and, client by client, over as many
+# as there are without an option. One whose lines have no order between clients has them in a file (`trial_cluster_example`).
 trial_examples() {
     local example wanted
     for example in "$home"/examples/*/; do
         example=$(basename -- "$example")
+        [ -f "$home/examples/$example/expected" ] && continue
         rm -rf -- "$work/d"
         mkdir -- "$work/d"
         cp -- "$home/examples/$example/flows.json" "$home/examples/$example/requests.jsonl" "$work/d/"
         wanted=$(awk '/^It prints$/ { reading = 1; next } reading && /^    / { print substr($0, 5); any = 1; next } reading && any { exit }' "$home/examples/$example/README.md"; printf .)
         [ "$wanted" != . ] || wrong "$example: its README doesn't say what it prints"
-        same "$example" "$wanted" "$("$program" "$work/d" run 2>&1; printf .)"
-        same "$example again" "$wanted" "$("$program" "$work/d" run 2>&1; printf .)"
+        same "$example" "$wanted" "$("$program" "$work/d" run --partitions 1 2>&1; printf .)"
+        same "$example again" "$wanted" "$("$program" "$work/d" run --partitions 1 2>&1; printf .)"
+        rm -f -- "$work/d"/p0*
+        printf '%s' "${wanted%.}" >"$work/wanted"
+        "$program" "$work/d" run >"$work/stdout" 2>&1
+        same "$example by default" "$(by_client "$work/wanted")" "$(by_client "$work/stdout")"
     done
 }
 
@@ -50,11 +56,11 @@ trial_tick() {
     printf '%s\n' '{"flows":{"Tick":[["while",true,[["timer","h",10],["await","h",{"v":"h"}]]]]}}' >"$work/d/flows.json"
     printf '%s\n' '{"client":"a","n":1,"start":"Tick/x"}' '{"client":"a","n":2,"wait":"Tick/x"}' >"$work/d/requests.jsonl"
     for run in first second; do
-        "$program" "$work/d" run --steps 5 >"$work/stdout" 2>"$work/stderr"
+        "$program" "$work/d" run --partitions 1 --steps 5 >"$work/stdout" 2>"$work/stderr"
         ended "$run" 4 $? long 5
         is_front "$run" $'a 1 started\n'
     done
-    "$program" "$work/d" show >"$work/stdout" 2>&1
+    "$program" "$work/d" show --partitions 1 >"$work/stdout" 2>&1
     same 'it runs' $'Tick/x running\n.' "$(text_of "$work/stdout")"
 }
 
@@ -109,18 +115,18 @@ trial_kills_of_examples() {
         rm -rf -- "$work/d"
         mkdir -- "$work/d"
         cp -- "$home/examples/$example/flows.json" "$home/examples/$example/requests.jsonl" "$work/d/"
-        wanted=$("$program" "$work/d" run 2>&1; printf .)
+        wanted=$("$program" "$work/d" run --partitions 1 2>&1; printf .)
         for i in $(seq 5); do
             rm -f -- "$work/d"/p00.*
             for _ in $(seq 5); do
-                "$program" "$work/d" run >/dev/null 2>&1 &
+                "$program" "$work/d" run --partitions 1 >/dev/null 2>&1 &
                 perl -e 'select(undef, undef, undef, rand(0.03))'
                 {
                     kill -9 $!
                     wait $!
                 } 2>/dev/null
             done
-            same "$example, killed $i" "$wanted" "$("$program" "$work/d" run 2>&1; printf .)"
+            same "$example, killed $i" "$wanted" "$("$program" "$work/d" run --partitions 1 2>&1; printf .)"
         done
     done
 }

@@ -167,8 +167,8 @@ trial_two_names_of_a_log() {
                 printf '{"client":"%s","n":%d,"start":"Sum/%s%d"}\n' "$name" "$n" "$name" "$n"
             done >"$work/$name/requests.jsonl"
         done
-        "$program" "$work/d" run >"$work/d.said" 2>"$work/d.why" &
-        "$program" "$work/e" run >"$work/e.said" 2>"$work/e.why"
+        "$program" "$work/d" run --partitions 1 >"$work/d.said" 2>"$work/d.why" &
+        "$program" "$work/e" run --partitions 1 >"$work/e.said" 2>"$work/e.why"
         other=$?
         wait $!
         one=$?
@@ -181,7 +181,7 @@ trial_two_names_of_a_log() {
                 same "pair $i: the reason" $'netherite: site fault\n  p00.log0: another run holds this file' "$(cat -- "$work/$name.why")"
                 same "pair $i: what is said" . "$(text_of "$work/$name.said")"
             else
-                same "pair $i: what was said" "$(text_of "$work/$name.said")" "$("$program" "$work/$name" run 2>&1; printf .)"
+                same "pair $i: what was said" "$(text_of "$work/$name.said")" "$("$program" "$work/$name" run --partitions 1 2>&1; printf .)"
             fi
         done
     done
@@ -193,9 +193,9 @@ trial_held_log() {
     sum_runs first "$work/d"
     exec 7<"$work/d/p00.log0"
     flock --exclusive 7
-    refused 'a held log' 5 'site fault' "$work/d" run
+    refused 'a held log' 5 'site fault' "$work/d" run --partitions 1
     same 'why' '  p00.log0: another run holds this file' "$(tail -n +2 "$work/stderr")"
-    refused 'a held log that is shown' 5 'site fault' "$work/d" show
+    refused 'a held log that is shown' 5 'site fault' "$work/d" show --partitions 1
     exec 7<&-
     sum_runs 'afterwards' "$work/d"
 }
@@ -204,16 +204,16 @@ trial_held_log() {
 # there is none.
 trial_file_size_limit() {
     fresh d
-    same 'no byte: why' $'netherite: site fault\n  p00.log0: File too large (os error 27)\n5' "$( (ulimit -f 0; "$script" "$work/d" run 2>&1; echo $?))"
+    same 'no byte: why' $'netherite: site fault\n  p00.log0: File too large (os error 27)\n5' "$( (ulimit -f 0; "$script" "$work/d" run --partitions 1 2>&1; echo $?))"
     sum_runs 'no byte, afterwards' "$work/d"
     fresh d
     printf '%s\n' '{"flows":{"Calls":[["while",true,[["call","x","echo",0]]]]}}' >"$work/d/flows.json"
     printf '%s\n' '{"client":"a","n":1,"start":"Calls/x"}' '{"client":"a","n":2,"wait":"Calls/x"}' >"$work/d/requests.jsonl"
-    same 'some bytes: why' $'a 1 started\nnetherite: site fault\n  p00.log0: File too large (os error 27)\n5' "$( (ulimit -f 2; "$script" "$work/d" run 2>&1; echo $?))"
-    "$script" "$work/d" run --steps 5 >"$work/stdout" 2>"$work/stderr"
+    same 'some bytes: why' $'a 1 started\nnetherite: site fault\n  p00.log0: File too large (os error 27)\n5' "$( (ulimit -f 2; "$script" "$work/d" run --partitions 1 2>&1; echo $?))"
+    "$script" "$work/d" run --partitions 1 --steps 5 >"$work/stdout" 2>"$work/stderr"
     ended 'some bytes, afterwards' 4 $? long 5
     fresh d
     sum_runs 'a log' "$work/d"
-    (ulimit -f 0; exec "$script" "$work/d" run >"$work/stdout" 2>/dev/null)
+    (ulimit -f 0; exec "$script" "$work/d" run --partitions 1 >"$work/stdout" 2>/dev/null)
     same 'standard output: status' 6 $?
 }
