@@ -38,6 +38,10 @@ then_asked = record {
   message = record { from = client (codes "a"); to = orchestration (codes "Sum") (codes "y"); body = wait 2 };
 }
 
+-- client a asks to start Sum/x
+abbrev pub asked_for_x : Request
+asked_for_x = record { client = codes "a"; number = 1; message = asks (codes "a") (codes "x") 1 }
+
 -- a call of two partitions in their first incarnations, where nothing happened before
 abbrev pub rules_with : Flows → Rules
 rules_with flows = record {
@@ -49,6 +53,10 @@ rules_with flows = record {
   requests = first_asked ∷ then_asked ∷ [];
   serves = true;
 }
+
+-- one in which Sum/x is asked for
+abbrev pub taking_rules : Flows → Rules
+taking_rules flows = record (rules_with flows) { requests = asked_for_x ∷ [] }
 
 -- one in which partition 0 is in one more incarnation, and one in which nobody asks
 abbrev pub later_rules : Flows → Rules

@@ -13,11 +13,11 @@ ghost use Rattle.flow_syntax.specs.Syntax.{Flows};
 ghost use Rattle.hub_store.specs.Trail.{Said};
 ghost use Rattle.many_examples.specs.Pairs.{first_entry, taking, coming_in};
 ghost use Rattle.many_examples.specs.Placings.{states_of, asking_states, ending_sum, one_file, none_of, taken_of, taking_x, beyond};
-ghost use Rattle.many_examples.specs.RulesBy.{rules_with, later_rules, silent_rules, asking_rules, answering_rules, taken_once, settled, firing, first_said, second_said, second_rules, empty_origin, empty_log, unknown_rules, answering, answering_at, gate_written, starting_sum, at_once, letting_unknown, sum_done, sum_done_origin, sum_done_rules, free_rules, unserved_rules};
+ghost use Rattle.many_examples.specs.RulesBy.{rules_with, taking_rules, later_rules, silent_rules, asking_rules, answering_rules, taken_once, settled, firing, first_said, second_said, second_rules, empty_origin, empty_log, unknown_rules, answering, answering_at, gate_written, starting_sum, at_once, letting_unknown, sum_done, sum_done_origin, sum_done_rules, free_rules, unserved_rules};
 ghost use Rattle.many_logs.specs.Placing.{GoesThrough};
 ghost use Rattle.many_logs.specs.Stands.{asked_at, AreKept};
-ghost use Rattle.many_rules.specs.Leaves.{Begins, IsAnswered, AllAnswered, IsHalfSaid, IsOfCall, AllRan, StandsOn};
-ghost use Rattle.many_rules.specs.Rules.{known_of, GoesFrom, Follows, Answers, Passes};
+ghost use Rattle.many_rules.specs.Leaves.{Begins, IsAnswered, AllAnswered, IsHalfSaid, AllRan, StandsOn};
+ghost use Rattle.many_rules.specs.Rules.{known_of, IsOurs, GoesFrom, Follows, Answers, Passes};
 ghost use Rattle.part_items.specs.Examples.{digest};
 ghost use Rattle.part_items.specs.Logs.{logs_in, entries_in};
 ghost use Rattle.run_rules.specs.FieldExamples.{no_sum, sum_flows, starting, ending_first};
@@ -119,11 +119,11 @@ pub fn calls_begin()
 /// An entry of this call is of its partition's incarnation or a later one, and of no later stamp than the clock's.
 pub fn entries_of_call()
     ensures coming { (flows : Flows)
-        → IsOfCall (rules_with flows) 0 0 (coming_in 0).entry }
-    ensures fired { (flows : Flows) → IsOfCall (rules_with flows) 5 1 (firing 5) }
+        → IsOurs (rules_with flows) 0 [] 0 (coming_in 0).entry }
+    ensures fired { (flows : Flows) → IsOurs (rules_with flows) 5 [] 1 (firing 5) }
     ensures incarnation { (flows : Flows)
-        → IsOfCall (later_rules flows) 0 0 (coming_in 0).entry → ⊥ }
-    ensures timely { (flows : Flows) → IsOfCall (rules_with flows) 4 1 (firing 5) → ⊥ }
+        → IsOurs (later_rules flows) 0 [] 0 (coming_in 0).entry → ⊥ }
+    ensures timely { (flows : Flows) → IsOurs (rules_with flows) 4 [] 1 (firing 5) → ⊥ }
 {}
 
 /// What is sent by one partition and comes in at another may come frame by frame; an activity that no settled entry asked for didn't
@@ -172,11 +172,11 @@ pub fn crashes_leave_no_such_entry()
 
 /// A crash of a call that did nothing leaves no files, and one of a call that took a request a log with it. It doesn't leave files without
 /// what was settled, be it an entry that changes nothing, nor with an entry whose gate wasn't written, nor damaged ones, nor an entry of
-/// another incarnation; the tape isn't shorter than it was, and what stands on it answers somebody.
+/// another incarnation or that takes what nobody asked; the tape isn't shorter than it was, and what stands on it answers somebody.
 pub fn crashes_leave()
     ensures empty { (flows : Flows) → StandsOn (rules_with flows) 0 digest empty_origin [] []
         (λ file. []) }
-    ensures taken { (flows : Flows) → StandsOn (rules_with flows) 0 digest empty_origin []
+    ensures taken { (flows : Flows) → StandsOn (taking_rules flows) 0 digest empty_origin []
         (settled taking_x ∷ []) (one_file 20 (taken_of 1)) }
     ensures lost { (flows : Flows) → StandsOn (rules_with flows) 0 digest empty_origin []
         (settled taking_x ∷ []) (λ file. []) → ⊥ }
@@ -187,6 +187,8 @@ pub fn crashes_leave()
     ensures of_call { (flows : Flows)
         → StandsOn (record (rules_with flows) { incarnations = λ partition. 1 }) 0 digest
         empty_origin [] (settled taking_x ∷ []) (one_file 20 (taken_of 1)) → ⊥ }
+    ensures foreign { (flows : Flows) → StandsOn (silent_rules flows) 0 digest empty_origin []
+        (settled taking_x ∷ []) (one_file 20 (taken_of 1)) → ⊥ }
     ensures unwritten { (flows : Flows) → StandsOn (rules_with flows) 0 digest empty_origin [] []
         (one_file 20 (taken_of 1)) → ⊥ }
     ensures unsaid { (flows : Flows) → StandsOn (rules_with flows) 0 digest
@@ -198,8 +200,8 @@ pub fn crashes_leave()
 /// A crash while a gate is being written leaves the frame behind it, or nothing; but no frame of another incarnation, nor, whatever the
 /// files are that keep it, one with an outcome of what it asks for itself, or that names an entry which never was.
 pub fn crashes_leave_frames()
-    ensures open { (flows : Flows) → StandsOn (rules_with flows) 0 digest empty_origin gate_written
-        [] (one_file 20 (taken_of 1)) }
+    ensures open { (flows : Flows) → StandsOn (taking_rules flows) 0 digest empty_origin
+        gate_written [] (one_file 20 (taken_of 1)) }
     ensures closed { (flows : Flows) → StandsOn (rules_with flows) 0 digest empty_origin
         gate_written [] (λ file. []) }
     ensures of_call { (flows : Flows)

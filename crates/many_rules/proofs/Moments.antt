@@ -8,17 +8,17 @@ use Rattle.dura_model.specs.Steps.{Label}
 use Rattle.dura_value.specs.Items.{Entry}
 use Rattle.hub_store.specs.Moments.{WroteGate, LogKeeps, StoreStands as StandsAt}
 use Rattle.hub_store.specs.Origin.{Origin, IsNoLog}
-use Rattle.hub_store.specs.Trail.{Settled, of_part}
+use Rattle.hub_store.specs.Trail.{Settled, Said, of_part}
 use Rattle.many_logs.specs.Placing.{Commit, of_partition, AllBelow, frames_in_order}
 use Rattle.many_logs.specs.Labels.{labels_of_commits, AllGiven, AreNumbered}
 use Rattle.many_logs.specs.Stands.{asked_at, FilesStand}
 use Rattle.many_logs.proofs.Frames.{of_both, of_frames, below_both, below_frames, put_then, given_both, frames_go}
 use Rattle.many_logs.proofs.OrdersStand.{logs_numbered, orders_stand}
-use Rattle.many_rules.specs.Rules.{Rules, commits_of, known_of, GoesFrom, Follows, Answers}
+use Rattle.many_rules.specs.Rules.{Rules, commits_of, pairs_of, known_of, IsOurs, GoesFrom, Follows, Answers}
 use Rattle.many_logs.specs.Names.{identities_in}
-use Rattle.many_rules.specs.Leaves.{header_at, Begins, IsOfCall, StandsOn}
+use Rattle.many_rules.specs.Leaves.{header_at, Begins, StandsOn}
 use Rattle.many_rules.specs.Appended.{puts_part}
-use Rattle.many_rules.proofs.Trails.{Goes, labels_split, numbered_front, own_frame, trail_goes, frames_ran}
+use Rattle.many_rules.proofs.Trails.{Goes, labels_split, numbered_front, ours_so_far, trail_goes, frames_ran}
 use Rattle.many_rules.proofs.Founding.{named_both, named_frames, all_founded}
 use Rattle.many_rules.proofs.Answered.{all_answered, half_said}
 use Rattle.std.specs.List.{All}
@@ -63,9 +63,9 @@ module _ (count digest partition : ℕ) (entries : List Entry) (gate : ℕ) wher
 
 module _ (rules : Rules) (latest : ℕ) where
   -- the frame of a partition that an image has, if it has one
-  record Frame (o : Origin) (states : ℕ → Partition) (steps : List Step) (trail : List Settled) (files : ℕ → List ℕ) (partition : ℕ) (going : List Entry) : Type 0 where
+  record Frame (o : Origin) (states : ℕ → Partition) (steps : List Step) (trail : List Settled) (told : List Said) (files : ℕ → List ℕ) (partition : ℕ) (going : List Entry) : Type 0 where
     goes : GoesFrom rules (known_of rules trail) states partition going
-    own : All (IsOfCall rules latest partition) going
+    own : All (IsOurs rules latest (pairs_of told) partition) going
     keeps_it : LogKeeps (o.logs partition) (of_part partition trail ++ going) (files (o.logs partition).file)
     writing : (going ≡ []) ⊎ WroteGate (o.logs partition) (of_part partition trail) (changes_of (o.logs partition).file steps)
 
@@ -94,7 +94,7 @@ module _ (rules : Rules) (latest : ℕ) where
       none_there partition low = begins.empty partition low (files (begins.other partition)) (subst (λ changes. Leaves changes (files (begins.other partition))) (here.stands.others (begins.other partition) (no_log partition low)) (image.each (begins.other partition)))
 
       abbrev Its : ℕ → List Entry → Type 0
-      Its = Frame o goes_so.states steps trail files
+      Its = Frame o goes_so.states steps trail here.told files
 
       frame_at : (partition : ℕ) → partition < rules.count → (going : List Entry) × Its partition going
       frame_at partition low = elim (here.stands.images partition (omega (arith, low, begins.count)) (files (o.logs partition).file) (image.each (o.logs partition).file)) [
@@ -107,7 +107,7 @@ module _ (rules : Rules) (latest : ℕ) where
             writing = inl refl;
           },
         )
-        | inr next ↦ (next.going, record { goes = next.follows.goes goes_so.states goes_so.made; own = own_frame rules latest trail here.told partition next.going next.follows; keeps_it = next.keeps; writing = inr next.gate })
+        | inr next ↦ (next.going, record { goes = next.follows.goes goes_so.states goes_so.made; own = next.follows.ours; keeps_it = next.keeps; writing = inr next.gate })
       ]
 
       -- the frame of each, by whether there is such a partition
@@ -182,11 +182,11 @@ module _ (rules : Rules) (latest : ℕ) where
               given = given;
             };
             ran = frames_ran rules latest (known_of rules trail) rules.count (commits_of trail) goes_so.states going_in goes_so.ran goes_so.made (λ partition low. (its partition low).goes);
-            own = λ partition low. All-append (IsOfCall rules latest partition) (of_part partition trail) (going_in partition) (goes_so.own partition) (its partition low).own;
             founded = all_founded rules.recovered (commits_of trail ++ frames_in_order rules.count going_in) numbered
                 (named_both (identities_in rules.recovered) (commits_of trail) (frames_in_order rules.count going_in) goes_so.named
                 (named_frames (identities_in rules.recovered ++ identities_in (commits_of trail)) rules.count going_in (λ partition low. (its partition low).goes.named)));
             told = here.told;
+            own = λ partition low. All-append (IsOurs rules latest (pairs_of here.told) partition) (of_part partition trail) (going_in partition) (ours_so_far rules latest here.stands.rightly partition) (its partition low).own;
             lines = here.stands.lines;
             part = here.part;
             answered = all_answered o rules latest digest begins (commits_of trail) settled_numbered here.stands.rightly [] (sym (append-nil (commits_of trail)));

@@ -1,5 +1,5 @@
 -- What was settled is accepted in its order.
-use Rattle.std.proofs.Common.{◌≡◌, ◌<◌, ◌==◌, ℕ, zero, suc, Bool, true, false, List, [], ◌∷◌, ◌++◌, Some, refl, sym, ap, subst, ◌∙◌, append_assoc, append-nil, arith}
+use Rattle.std.proofs.Common.{◌≡◌, ◌<◌, ◌==◌, ℕ, zero, suc, Bool, true, false, List, [], ◌∷◌, ◌++◌, Some, refl, sym, ap, subst, ◌∙◌, append_assoc, append-nil, get_or, arith}
 use Rattle.std.specs.List.{All}
 use Rattle.std.proofs.lemmas.List.Elements.{All-append}
 use Rattle.dura_model.specs.Partition.{Partition, fresh}
@@ -17,11 +17,13 @@ use Rattle.std.proofs.lemmas.Bool.{eqb-true}
 use Rattle.many_logs.specs.Placing.{Commit, states_after, of_partition, AllBelow, commits_at, frames_in_order}
 use Rattle.many_logs.specs.Labels.{labels_of_commits, AllGiven, AreNumbered, state_next}
 use Rattle.many_logs.proofs.Frames.{of_both, below_both, below_at, put_then, given_both, frames_go}
-use Rattle.many_rules.specs.Rules.{Rules, commits_of, HaveRun, GoesFrom, Follows, Answers}
+use Rattle.many_rules.specs.Ours.{ours_still}
+use Rattle.many_rules.specs.Rules.{Rules, commits_of, pairs_of, HaveRun, IsOurs, GoesFrom, Follows, Answers}
+use Rattle.run_rules.specs.Rules.{Told}
 use Rattle.many_logs.specs.Names.{identities_in}
-use Rattle.many_rules.specs.Leaves.{IsOfCall, AllRan}
+use Rattle.many_rules.specs.Leaves.{AllRan}
 use Rattle.many_rules.specs.Leaves.AllRan.{nothing_ran, frame_more}
-use Rattle.many_rules.specs.Appended.{puts_both, puts_settling}
+use Rattle.many_rules.specs.Appended.{puts_both, puts_settling, pairs_both}
 use Rattle.many_rules.proofs.Founding.{AllNamed, named_both, named_frame}
 use Rattle.dura_value.proofs.Basics.{some_same}
 
@@ -41,29 +43,37 @@ pub record Goes (rules : Rules) (latest : ℕ) (trail : List Settled) : Type 0 w
   pub given : AllGiven rules.flows rules.count rules.begin (commits_of trail)
   pub below : AllBelow rules.count (commits_of trail)
   pub ran : AllRan rules (commits_of trail)
-  pub own : (partition : ℕ) → All (IsOfCall rules latest partition) (of_part partition trail)
   pub named : AllNamed (identities_in rules.recovered) (commits_of trail)
 
 module _ (rules : Rules) (latest : ℕ) where
-  pub own_frame : (trail : List Settled) (told : List Said) (partition : ℕ) (going : List Entry) → Follows rules latest trail told partition going → All (IsOfCall rules latest partition) going
-  own_frame trail told partition going follows = λ k d inside. let one = follows.ours k d inside in record { incarnation = one.incarnation; timely = one.timely }
-
-  own_more : (trail : List Settled) (told : List Said) (partition at : ℕ) (going : List Entry) → ((other : ℕ) → All (IsOfCall rules latest other) (of_part other trail)) → Follows rules latest trail told partition going
-      → (other : ℕ) → All (IsOfCall rules latest other) (of_part other (trail ++ settling partition at going))
+  -- the entries of a frame that follows are the call's
+  own_more : (trail : List Settled) (told : List Said) (partition at : ℕ) (going : List Entry) → ((other : ℕ) → All (IsOurs rules latest (pairs_of told) other) (of_part other trail)) → Follows rules latest trail told partition going
+      → (other : ℕ) → All (IsOurs rules latest (pairs_of told) other) (of_part other (trail ++ settling partition at going))
   own_more trail told partition at going before follows other = subst (All Its) (sym (of_part-append other trail (settling partition at going))) (All-append Its (of_part other trail) (of_part other (settling partition at going)) (before other) (by (partition == other) refl))
     where
       Its : Entry → Type 0
-      Its = IsOfCall rules latest other
+      Its = IsOurs rules latest (pairs_of told) other
 
       by : (test : Bool) → (partition == other) ≡ test → All Its (of_part other (settling partition at going))
       by true same = mine other (eqb-true partition other same)
         where
-          mine : (p : ℕ) → partition ≡ p → All (IsOfCall rules latest p) (of_part p (settling partition at going))
-          mine p is = subst (λ (q : ℕ). All (IsOfCall rules latest q) (of_part q (settling partition at going))) is (subst (All (IsOfCall rules latest partition)) (sym (own_part partition at going)) (own_frame trail told partition going follows))
+          mine : (p : ℕ) → partition ≡ p → All (IsOurs rules latest (pairs_of told) p) (of_part p (settling partition at going))
+          mine p is = subst (λ (q : ℕ). All (IsOurs rules latest (pairs_of told) q) (of_part q (settling partition at going))) is (subst (All (IsOurs rules latest (pairs_of told) partition)) (sym (own_part partition at going)) follows.ours)
       by false apart = subst (All Its) (sym (no_part partition other at going (eqb_apart partition other apart))) (λ k d inside. absurd (omega (arith, inside)))
 
+  -- they are so still once one answer more was said
+  said_more : (told : List Said) (one : Said) (other : ℕ) (entries : List Entry) → All (IsOurs rules latest (pairs_of told) other) entries → All (IsOurs rules latest (pairs_of (told ++ one ∷ [])) other) entries
+  said_more told one other entries ours = λ k d inside.
+      subst (λ (t : Told). IsOurs rules latest t other (get_or entries k d)) (sym (pairs_both told (one ∷ []))) (ours_still rules latest other (get_or entries k d) (pairs_of told) (pairs_of (one ∷ [])) (ours k d inside))
+
+  -- all that was settled is the call's, by what was said
+  pub ours_so_far : {trail : List Settled} {told : List Said} {lines : List ℕ} → StoreTold (Follows rules latest) (Answers rules) trail told lines → (other : ℕ) → All (IsOurs rules latest (pairs_of told) other) (of_part other trail)
+  ours_so_far silent other = λ k d inside. absurd (omega (arith, inside))
+  ours_so_far (settles {trail} {told} before partition at going follows) other = own_more trail told partition at going (ours_so_far before) follows other
+  ours_so_far (says {trail} {told} before one line may) other = said_more told one other (of_part other trail) (ours_so_far before other)
+
   pub trail_goes : {trail : List Settled} {told : List Said} {lines : List ℕ} → StoreTold (Follows rules latest) (Answers rules) trail told lines → Goes rules latest trail
-  trail_goes silent = record { states = rules.begin; made = refl; given = tt; below = tt; ran = nothing_ran; own = λ partition k d inside. absurd (omega (arith, inside)); named = tt }
+  trail_goes silent = record { states = rules.begin; made = refl; given = tt; below = tt; ran = nothing_ran; named = tt }
   trail_goes (settles {trail} {told} before partition at going follows) =
       let goes = trail_goes before in
       let next = follows.goes goes.states goes.made in
@@ -76,7 +86,6 @@ module _ (rules : Rules) (latest : ℕ) where
             (λ middle all. subst (λ (f : ℕ → Partition). AllGiven rules.flows rules.count f (commits_at partition going)) (some_same (sym goes.made ∙ all)) next.given));
         below = subst (AllBelow rules.count) is (below_both rules.count (commits_of trail) (commits_at partition going) goes.below (below_at rules.count partition going follows.below));
         ran = subst (AllRan rules) is (frame_more goes.ran goes.states goes.made partition going next.pending);
-        own = own_more trail told partition at going goes.own follows;
         named = subst (AllNamed (identities_in rules.recovered)) is (named_both (identities_in rules.recovered) (commits_of trail) (commits_at partition going) goes.named (named_frame (identities_in rules.recovered ++ identities_in (commits_of trail)) partition going next.named));
       }
   trail_goes (says before one line may) = trail_goes before

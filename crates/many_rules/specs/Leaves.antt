@@ -1,5 +1,5 @@
 -- What a crash leaves of a call of many partitions.
-use Rattle.std.specs.Prelude.{◌≡◌, ◌⊎◌, ◌<◌, ◌≤◌, ℕ, max, true, List, [], ◌∷◌, ◌++◌, Some}
+use Rattle.std.specs.Prelude.{◌≡◌, ◌⊎◌, ◌<◌, ℕ, true, List, [], ◌∷◌, ◌++◌, Some}
 use Rattle.std.specs.List.{All}
 use Rattle.client_port.specs.Lines.{line_of}
 use Rattle.commit_log.specs.declared.header.Header.{Header}
@@ -16,11 +16,10 @@ use Rattle.hub_store.specs.Trail.{Settled, Said, of_part}
 use Rattle.many_logs.specs.Placing.{Commit, states_after, of_partition, AllBelow, commits_at, frames_in_order}
 use Rattle.many_logs.specs.Labels.{labels_of_commits, AllGiven}
 use Rattle.many_logs.specs.Stands.{FilesStand, AreKept}
-use Rattle.many_rules.specs.Rules.{Rules, HaveRun, IsNext, commits_of}
+use Rattle.many_rules.specs.Rules.{Rules, HaveRun, IsNext, IsOurs, commits_of, pairs_of}
 use Rattle.many_logs.specs.Names.{identities_in, committed_in}
 use Rattle.part_items.specs.Kept.{nothing, kept_in}
 use Rattle.part_items.specs.Logs.{first_log, second_log}
-use Rattle.run_rules.specs.Rules.{IsBy}
 use Rattle.site_model.specs.History.{Step, changes_of, tape, Leaves}
 
 -- the header of a partition's log, from its first position on
@@ -67,12 +66,6 @@ pub record IsHalfSaid (rules : Rules) (settled : List Commit) (told : List Said)
   pub answered : IsAnswered rules settled told one line
   pub front : IsPrefix part line
 
--- An entry of this call: of the incarnation with which it begins or of one that began in it, and of no later stamp than both its log's
--- entries at the beginning and the clock's latest.
-pub record IsOfCall (rules : Rules) (latest : ℕ) (partition : ℕ) (entry : Entry) : Type 0 where
-  pub incarnation : rules.incarnations partition ≤ entry.incarnation
-  pub timely : All (IsBy (max (rules.begin partition).stamp latest)) entry.items
-
 -- In a call that serves clients activities ran only for tasks whose schedule was settled: what came did so frame by frame, and each
 -- outcome in a frame is that of an activity which was pending already in the state of its partition that the frames before it make.
 pub data AllRan (rules : Rules) : List Commit → Type 0 where
@@ -83,17 +76,17 @@ pub data AllRan (rules : Rules) : List Commit → Type 0 where
 -- The files stand for the run at the start, then what was settled, in its order, then no more than one frame of each partition, whose
 -- gate was being written, in the partitions' order; and just these entries are kept in them, accepted in this order, so that the next
 -- call may begin with them. Each outcome in it is one that its activity may give, and that ran once its task was settled; each entry
--- that came is of this call, and founded on entries before it. The tape goes on by lines that answer requests as that run does by what
--- is settled, then no more than a prefix of one further.
+-- that came is of this call, takes only what was due of its client by what was said, and is founded on entries before it. The tape goes on
+-- by lines that answer requests as that run does by what is settled, then no more than a prefix of one further.
 pub record StandsOn (rules : Rules) (latest digest : ℕ) (o : Origin) (steps : List Step) (trail : List Settled) (files : ℕ → List ℕ) : Type 0 where
   pub going : ℕ → List Entry
   pub stands : FilesStand rules.flows rules.count digest files (labels_of_commits rules.recovered ++ labels_of_commits (commits_of trail) ++ labels_of_commits (frames_in_order rules.count going))
   pub writing : (partition : ℕ) → partition < rules.count → (going partition ≡ []) ⊎ WroteGate (o.logs partition) (of_part partition trail) (changes_of (o.logs partition).file steps)
   pub kept : AreKept rules.flows rules.count digest files (rules.recovered ++ (commits_of trail ++ frames_in_order rules.count going))
   pub ran : AllRan rules (commits_of trail ++ frames_in_order rules.count going)
-  pub own : (partition : ℕ) → partition < rules.count → All (IsOfCall rules latest partition) (of_part partition trail ++ going partition)
-  pub founded : Founded (identities_in rules.recovered) (committed_in (commits_of trail ++ frames_in_order rules.count going))
   pub told : List Said
+  pub own : (partition : ℕ) → partition < rules.count → All (IsOurs rules latest (pairs_of told) partition) (of_part partition trail ++ going partition)
+  pub founded : Founded (identities_in rules.recovered) (committed_in (commits_of trail ++ frames_in_order rules.count going))
   pub lines : List ℕ
   pub part : List ℕ
   pub answered : AllAnswered rules (commits_of trail) told lines

@@ -8,10 +8,10 @@ use Rattle.hub_store.specs.Trail.{Said}
 use Rattle.many_logs.proofs.Leads.{after_both}
 use Rattle.many_logs.specs.Labels.{labels_of_commits}
 use Rattle.many_logs.specs.Placing.{Commit}
-use Rattle.many_rules.specs.Leaves.{IsOfCall, AllRan, IsAnswered, AllAnswered, IsHalfSaid}
+use Rattle.many_rules.specs.Leaves.{AllRan, IsAnswered, AllAnswered, IsHalfSaid}
 use Rattle.many_rules.specs.Leaves.AllAnswered.{nothing_said, one_more}
 use Rattle.many_rules.specs.Leaves.AllRan.{nothing_ran, frame_more}
-use Rattle.many_rules.specs.Rules.{Rules, IsNext}
+use Rattle.many_rules.specs.Rules.{Rules, IsNext, IsOurs, pairs_of}
 use Rattle.site_model.specs.History.{Step}
 
 module _ (rules : Rules) (kept : List Commit) where
@@ -20,8 +20,8 @@ module _ (rules : Rules) (kept : List Commit) where
   other = record rules { recovered = kept }
 
   -- entries of the one call are of the other
-  pub own_alike : (latest partition : ℕ) (entries : List Entry) → All (IsOfCall rules latest partition) entries → All (IsOfCall other latest partition) entries
-  own_alike latest partition entries own = λ k d inside. let one = own k d inside in record { incarnation = one.incarnation; timely = one.timely }
+  pub own_alike : (latest : ℕ) (told : List Said) (partition : ℕ) (entries : List Entry) → All (IsOurs rules latest (pairs_of told) partition) entries → All (IsOurs other latest (pairs_of told) partition) entries
+  own_alike latest told partition entries own = λ k d inside. let one = own k d inside in record { incarnation = one.incarnation; asked = one.asked; timely = one.timely }
 
   -- what ran only once its task was settled did so
   pub ran_alike : {settled : List Commit} → AllRan rules settled → AllRan other settled

@@ -72,9 +72,9 @@ module _ (rules : Rules) (run : List Commit) (states : ℕ → Partition) (lates
     writing = stands.writing;
     kept = kept_too;
     ran = ran_alike rules run stands.ran;
-    own = λ partition inside. own_alike rules run latest partition (of_part partition trail ++ stands.going partition) (stands.own partition inside);
     founded = founded_alike rules.recovered run same stands.founded;
     told = stands.told;
+    own = λ partition inside. own_alike rules run latest stands.told partition (of_part partition trail ++ stands.going partition) (stands.own partition inside);
     lines = stands.lines;
     part = stands.part;
     answered = all_alike rules run world first second settled stands.answered;

@@ -7,19 +7,21 @@ use Rattle.dura_model.specs.Partition.{fresh}
 use Rattle.dura_model.specs.World.{World, empty}
 use Rattle.dura_value.specs.Dependencies.Founded.{none, one_more}
 use Rattle.dura_value.specs.Ids.{client}
-use Rattle.dura_value.specs.Items.{Entry}
+use Rattle.dura_value.specs.Items.{Entry, took}
 use Rattle.flow_syntax.specs.Syntax.{Flows}
 use Rattle.hub_store.specs.Trail.{Said}
-use Rattle.many_examples.specs.RulesBy.{rules_with}
+use Rattle.many_examples.specs.RulesBy.{rules_with, taking_rules}
 use Rattle.many_examples.proofs.Placings.{of_two, second_kept, none_stand, none_are_kept, taken_stands, taken_are_kept}
 use Rattle.many_examples.proofs.UnderWay.{nothing_under_way}
+use Rattle.many_examples.proofs.Ours.{taking_ours}
 use Rattle.many_logs.specs.Labels.{labels_of_commits}
 use Rattle.many_logs.specs.Placing.{Commit, of_partition, commits_at}
-use Rattle.many_rules.specs.Leaves.{IsOfCall, IsAnswered, AllAnswered}
+use Rattle.many_rules.specs.Leaves.{IsAnswered, AllAnswered}
 use Rattle.many_rules.specs.Leaves.AllAnswered.{nothing_said, one_more as one_said}
 use Rattle.many_rules.specs.Leaves.AllRan.{nothing_ran, frame_more}
-use Rattle.part_items.specs.Examples.{taking}
-use Rattle.run_rules.specs.Rules.{EndsPending, IsBy}
+use Rattle.many_rules.specs.Rules.{IsOurs}
+use Rattle.part_items.specs.Examples.{taking, request}
+use Rattle.run_rules.specs.Rules.{EndsPending}
 use Rattle.many_examples.proofs.rules_examples.crashes_leave.Goals as goal
 
 pub returns-clause-empty : goal.returns-clause-empty
@@ -48,7 +50,7 @@ returns-clause-taken c = λ flows. record {
   ran = frame_more nothing_ran fresh refl 1 (taking 0 ∷ [])
       (λ serves. All-from_recursion (λ (entry : Entry). All (EndsPending (fresh 1)) entry.items) (taking 0 ∷ []) (All-from_recursion (EndsPending (fresh 1)) (taking 0).items (tt, tt), tt));
   own = of_two _ (λ k d inside. absurd (omega (arith, inside)))
-      (All-from_recursion (IsOfCall (rules_with flows) 0 1) (taking 0 ∷ []) (record { incarnation = omega arith; timely = All-from_recursion (IsBy 0) (taking 0).items (tt, tt) }, tt));
+      (All-from_recursion (IsOurs (taking_rules flows) 0 [] 1) (taking 0 ∷ []) (taking_ours flows, tt));
   founded = one_more _ none (record { follows = refl; named = λ k d inside. absurd (omega (arith, inside)) });
   told = [];
   lines = [];
@@ -70,6 +72,9 @@ returns-clause-damaged c = λ flows left. cc (left.kept.kept 1 (omega arith))
 
 pub returns-clause-of_call : goal.returns-clause-of_call
 returns-clause-of_call c = λ flows left. let incarnation : 1 ≤ 0 = (left.own 1 (omega arith) 0 (taking 0) (omega arith)).incarnation in omega (arith, incarnation)
+
+pub returns-clause-foreign : goal.returns-clause-foreign
+returns-clause-foreign c = λ flows left. cc ((left.own 1 (omega arith) 0 (taking 0) (omega arith)).asked refl 0 (took request) (omega arith)).asked
 
 pub returns-clause-unwritten : goal.returns-clause-unwritten
 returns-clause-unwritten c = λ flows left.

@@ -8,20 +8,22 @@ use Rattle.dura_value.specs.Dependencies.Founded.{none, one_more}
 use Rattle.dura_value.specs.Items.{Entry}
 use Rattle.hub_store.specs.Moments.{WroteGate}
 use Rattle.many_examples.specs.Pairs.{first_entry}
-use Rattle.many_examples.specs.RulesBy.{rules_with, empty_log, gate_written, at_once, letting_unknown}
+use Rattle.many_examples.specs.RulesBy.{rules_with, taking_rules, empty_log, gate_written, at_once, letting_unknown}
 use Rattle.many_examples.proofs.AtOnce.{ended_at_once}
 use Rattle.many_examples.proofs.Placings.{none_in, of_two, second_kept, none_stand, none_are_kept, taken_stands, taken_are_kept}
 use Rattle.many_examples.proofs.UnderWay.{nothing_under_way, kept_under_way, one_frame}
 use Rattle.many_examples.proofs.Unfounded.{one_founded}
+use Rattle.many_examples.proofs.Ours.{taking_ours}
 use Rattle.many_logs.specs.Names.{committed_in}
 use Rattle.many_logs.specs.Placing.{Commit}
-use Rattle.many_rules.specs.Leaves.{IsOfCall, AllRan}
+use Rattle.many_rules.specs.Leaves.{AllRan}
 use Rattle.many_rules.specs.Leaves.AllAnswered.{nothing_said}
 use Rattle.many_rules.specs.Leaves.AllRan.{nothing_ran, frame_more}
+use Rattle.many_rules.specs.Rules.{IsOurs, pairs_of}
 use Rattle.part_items.specs.Examples.{taking}
 use Rattle.part_items.specs.Kept.{entries_from}
 use Rattle.run_rules.specs.FieldExamples.{sum_flows}
-use Rattle.run_rules.specs.Rules.{EndsPending, IsBy}
+use Rattle.run_rules.specs.Rules.{EndsPending}
 use Rattle.site_model.specs.History.{changes_of}
 use Rattle.many_examples.proofs.rules_examples.crashes_leave_frames.Goals as goal
 
@@ -39,7 +41,7 @@ returns-clause-open c = λ flows. record {
   ran = frame_more nothing_ran fresh refl 1 (taking 0 ∷ [])
       (λ serves. All-from_recursion (λ (entry : Entry). All (EndsPending (fresh 1)) entry.items) (taking 0 ∷ []) (All-from_recursion (EndsPending (fresh 1)) (taking 0).items (tt, tt), tt));
   own = of_two _ (λ k d inside. absurd (omega (arith, inside)))
-      (All-from_recursion (IsOfCall (rules_with flows) 0 1) (taking 0 ∷ []) (record { incarnation = omega arith; timely = All-from_recursion (IsBy 0) (taking 0).items (tt, tt) }, tt));
+      (All-from_recursion (IsOurs (taking_rules flows) 0 [] 1) (taking 0 ∷ []) (taking_ours flows, tt));
   founded = one_more _ none (record { follows = refl; named = λ k d inside. absurd (omega (arith, inside)) });
   told = [];
   lines = [];
@@ -69,7 +71,7 @@ returns-clause-closed c = λ flows. record {
 pub returns-clause-of_call : goal.returns-clause-of_call
 returns-clause-of_call c = λ flows left.
     let going = kept_under_way left.going (taking 0) _ second_kept (left.kept.kept 1 (omega arith)) in
-    let own = subst (All (IsOfCall (record (rules_with flows) { incarnations = λ partition. 1 }) 0 1)) going (left.own 1 (omega arith)) in
+    let own = subst (All (IsOurs (record (rules_with flows) { incarnations = λ partition. 1 }) 0 (pairs_of left.told) 1)) going (left.own 1 (omega arith)) in
     let incarnation : 1 ≤ 0 = (own 0 (taking 0) (omega arith)).incarnation in
     omega (arith, incarnation)
 
