@@ -1,0 +1,6 @@
+pub mod Ends
+pub mod FileAsked
+mod LineAsked
+mod Lists
+pub mod Told
+pub mod Worlds

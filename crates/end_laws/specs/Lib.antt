@@ -1,0 +1,2 @@
+pub mod Rested
+pub mod Served
