@@ -4,6 +4,7 @@ pub mod ByItself
 pub mod Calls
 pub mod Cells
 pub mod Coming
+pub mod Filling
 pub mod Frames
 pub mod GivenUp
 pub mod Holding

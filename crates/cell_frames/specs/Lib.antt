@@ -1,5 +1,6 @@
 pub mod Beginning
 pub mod Begun
+pub mod Fills
 pub mod Joined
 pub mod Judges
 pub mod LetGo

@@ -3,6 +3,7 @@
 ghost use Rattle.std.specs.Prelude.{◌≡◌, ◌≢◌, ◌<◌, ℕ, true, false, Ok, Err};
 ghost use Rattle.cell_frames.specs.Begun.{HasBegun};
 ghost use Rattle.cell_frames.specs.Joined.{Joined, view_of};
+ghost use Rattle.cell_frames.specs.Fills.{WouldFill};
 ghost use Rattle.cell_frames.specs.Writes.{Writes, IsFull, KeepsOthers};
 ghost use Rattle.hub_store.specs.Ways.{way_of};
 ghost use Rattle.gated_store.specs.Keeps.{KeepsGate};
@@ -47,6 +48,8 @@ pub fn write_frame<V: Site, M: Picked>(
     ensures full { (at length : ℕ) → result ≡ Err (BodyRefusal.Full at length)
         → IsFull M.rules part marks.now cell.old store.old.logs.segment
         (way_of store.old.logs.ways.items part) length }
+    ensures fills { (at length : ℕ) → result ≡ Err (BodyRefusal.Full at length)
+        → WouldFill M.rules store.new at length }
     ensures going { cell.new.going ≡ true }
     ensures fault { result ≡ Err BodyRefusal.SiteFault → HasRisen
         (V.disk_faults store.old.logs.site) (V.disk_faults store.new.logs.site) }

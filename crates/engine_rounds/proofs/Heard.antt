@@ -10,6 +10,7 @@ use Rattle.hub_store.specs.Origin.{Origin}
 use Rattle.hub_store.specs.Ways.{stage_of, going_in, way_of}
 use Rattle.hub_store.specs.declared.start.Start as starts
 use Rattle.many_rules.specs.Rules.{Rules}
+use Rattle.node_core.proofs.Growing.{grows_same}
 use Rattle.node_core.specs.Running.{IsRunning, Keeps}
 use Rattle.round_steps.specs.Serving.{GoesOn}
 use Rattle.site_model.specs.declared.site.Site as sites
@@ -28,13 +29,14 @@ module _ {V L : Type 0} {G : sites.Ghosts V} {K : starts.Ghosts (gated_types.Gat
     floors = floors_of (ledgers i).items;
   }
 
-  pub heard_goes : (now : ℕ) → new.logs.site ≡ old.logs.site → new.logs.segment ≡ old.logs.segment → new.logs.latest ≡ max old.logs.latest now → GoesOn old new
-  heard_goes now site segment latest = record {
+  pub heard_goes : (now : ℕ) → new.logs.site ≡ old.logs.site → new.logs.segment ≡ old.logs.segment → new.logs.latest ≡ max old.logs.latest now → trail_in new.logs ≡ trail_in old.logs → GoesOn old new
+  heard_goes now site segment latest trail = record {
     tells = subst G.tells site;
     segment = segment;
     latest = omega (arith, latest);
     disk_faults = let same = ap G.disk_faults site in omega (arith, same);
     say_faults = let same = ap G.say_faults site in omega (arith, same);
+    grows = grows_same (trail_in old.logs) (trail_in new.logs) trail;
   }
 
   pub heard_runs : (o : Origin) (rules : Rules) (cells later : List CellView) (latest : ℕ) → IsRunning o rules old cells → Keeps o rules new → view_of new ≡ record (view_of old) { latest = latest } → new.logs.halted ≡ old.logs.halted → new.logs.cut ≡ old.logs.cut → length later ≡ length cells

@@ -1,2 +1,4 @@
+pub mod Adding
+mod Filled
 mod Heard
 mod Opens

@@ -1,2 +1,4 @@
+pub mod Adding
 pub mod Ends
+pub mod Halts
 pub mod Served

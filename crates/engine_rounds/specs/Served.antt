@@ -6,6 +6,7 @@ use Rattle.client_order.specs.Clashes.{taken_in, NoClash}
 use Rattle.client_port.specs.Ports.{Queue}
 use Rattle.commit_gate.specs.Ledgers.{log_length}
 use Rattle.engine_rounds.specs.Ends.{EndsAs}
+use Rattle.engine_rounds.specs.Halts.{HaltsFor}
 use Rattle.engine_rounds.specs.declared.driving.End.{End}
 use Rattle.engine_rounds.specs.declared.serving.Came.{Came}
 use Rattle.engine_rounds.specs.declared.serving.Came.TheVariants as cames
@@ -61,19 +62,20 @@ abbrev pub LeavesRuns : Rules → (latest digest : ℕ) → Origin → (new : Li
 LeavesRuns rules latest digest o new trail = (moment : ℕ) → length o.steps ≤ moment → moment ≤ length new → (files : ℕ → List ℕ) → IsImage (back_to moment new) files
     → (by : ℕ) × (by ≤ latest) × (labels : List Label) × StandsOrderly rules by digest o (back_to moment new) (settled_at moment trail) files labels
 
--- Unless saying failed, the tape goes on by one line for each of these requests, which answers it. And where rounds ended, that is what the port
--- has said, and they ended for this cause.
-pub record SaysOn (rules : Rules) (most : ℕ) (tells : Type 0) (before now : List Step) (trail : List Settled) (came : Came) (port : Option (List Queue)) : Type 0 where
+-- Unless saying failed, the tape goes on by one line for each of these requests, which answers it. Where rounds ended, that is what the port
+-- has said, and they ended for this cause; and where they halted, a full log was so by a frame that may come behind what was settled and said.
+pub record SaysOn (rules : Rules) (o : Origin) (limit most latest : ℕ) (tells : Type 0) (now : List Step) (trail : List Settled) (came : Came) (port : Option (List Queue)) : Type 0 where
   pub told : List Said
   pub queues : List Queue
   pub port_is : port ≡ Some queues
-  pub says : tells → came ≢ cames.Halted halts.SayFault → SaysAll rules before now trail told
+  pub says : tells → came ≢ cames.Halted halts.SayFault → SaysAll rules o.steps now trail told
+  pub halts : (halt : Halt) → came ≡ cames.Halted halt → HaltsFor rules o limit latest tells now trail told halt
   pub ends : (end : End) → came ≡ cames.Ended end → HasSaid rules.requests told queues × EndsAs rules most trail queues end
 
 -- A call began with what was recovered, among which nothing clashes with these requests, and served them. Each entry that was settled stands behind all that it depends on. Where the
 -- site tells, it began with what the files kept; a crash left what it could have left before, or files that keep that, as long as logs were
--- opened, and nothing was settled; and from then on, up to the end, files that stand for a run that goes on from what the files kept, in
--- whatever order that was accepted; and each log that was written ended below this length.
+-- opened, and nothing was settled; and from then on, up to the end, by which all of it was settled, files that stand for a run that goes on
+-- from what the files kept, in whatever order that was accepted; and each log that was written ended below this length.
 pub record IsServed (flows : Flows) (count digest segment most : ℕ) (requests : List Request) (latest : ℕ) (tells : Type 0) (old new : List Step) (trail : List Settled) (came : Came) (port : Option (List Queue)) : Type 0 where
   pub begun : Begun
   pub run : List Commit
@@ -85,6 +87,7 @@ pub record IsServed (flows : Flows) (count digest segment most : ℕ) (requests 
   pub opening : tells → OpensOnly flows count digest old steps
   pub further : tells → Always (λ moment. Unit {0}) steps new
   pub nothing : tells → (moment : ℕ) → moment < length steps → settled_at moment trail ≡ []
+  pub by_the_end : tells → settled_at (length new) trail ≡ trail
   pub crash : tells → (kept : List Commit) → AreKept flows count digest (λ file. content_of file old) kept → LeavesRuns (call_rules flows count begun kept requests true) latest digest (origin_of count digest steps begun) new trail
   pub short : tells → (partition : ℕ) → partition < count → IsShort segment (of_part partition trail) (content_of ((origin_of count digest steps begun).logs partition).file new)
-  pub on : SaysOn (call_rules flows count begun run requests true) most tells steps new trail came port
+  pub on : SaysOn (call_rules flows count begun run requests true) (origin_of count digest steps begun) segment most latest tells new trail came port

@@ -75,7 +75,7 @@ fn trim_now<V: Site, M: Picked>(
     ensures rises { IfErr result (RisesFor (V.disk_faults store.old.logs.site)
         (V.say_faults store.old.logs.site) (V.disk_faults store.new.logs.site)
         (V.say_faults store.new.logs.site)) }
-    ensures past { IfErr result (IsPast store.old.logs.segment) }
+    ensures past { IfErr result (IsPast M.rules store.new) }
     ensures clock { result ≢ Err Halt.ClockFault }
     ensures latest { store.new.logs.latest ≡ store.old.logs.latest }
 {
@@ -143,7 +143,7 @@ fn tidy<V: Site, M: Picked>(
     ensures rises { IfErr result (RisesFor (V.disk_faults store.old.logs.site)
         (V.say_faults store.old.logs.site) (V.disk_faults store.new.logs.site)
         (V.say_faults store.new.logs.site)) }
-    ensures past { IfErr result (IsPast store.old.logs.segment) }
+    ensures past { IfErr result (IsPast M.rules store.new) }
     ensures clock { result ≢ Err Halt.ClockFault }
     ensures latest { store.new.logs.latest ≡ store.old.logs.latest }
 {
@@ -175,7 +175,7 @@ fn judge_now<V: Site, M: Picked>(
     ensures rises { IfErr result (RisesFor (V.disk_faults store.old.logs.site)
         (V.say_faults store.old.logs.site) (V.disk_faults store.new.logs.site)
         (V.say_faults store.new.logs.site)) }
-    ensures past { IfErr result (IsPast store.old.logs.segment) }
+    ensures past { IfErr result (IsPast M.rules store.new) }
     ensures clock { result ≢ Err Halt.ClockFault }
     ensures latest { store.new.logs.latest ≡ store.old.logs.latest }
 {
@@ -203,7 +203,7 @@ fn settle_given_up<V: Site, M: Picked>(
     ensures rises { IfErr result (RisesFor (V.disk_faults store.old.logs.site)
         (V.say_faults store.old.logs.site) (V.disk_faults store.new.logs.site)
         (V.say_faults store.new.logs.site)) }
-    ensures past { IfErr result (IsPast store.old.logs.segment) }
+    ensures past { IfErr result (IsPast M.rules store.new) }
     ensures clock { result ≢ Err Halt.ClockFault }
     ensures latest { store.new.logs.latest ≡ store.old.logs.latest }
 {
@@ -233,7 +233,7 @@ fn follow<V: Site, M: Picked>(
     ensures rises { IfErr result (RisesFor (V.disk_faults store.old.logs.site)
         (V.say_faults store.old.logs.site) (V.disk_faults store.new.logs.site)
         (V.say_faults store.new.logs.site)) }
-    ensures past { IfErr result (IsPast store.old.logs.segment) }
+    ensures past { IfErr result (IsPast M.rules store.new) }
     ensures clock { result ≢ Err Halt.ClockFault }
     ensures latest { store.new.logs.latest ≡ store.old.logs.latest }
 {
@@ -267,7 +267,7 @@ fn go_once<V: Site, M: Picked, R: Reactions, A: Activities, C: Clock>(
     ensures rises { IfErr result (RisesFor (V.disk_faults store.old.logs.site)
         (V.say_faults store.old.logs.site) (V.disk_faults store.new.logs.site)
         (V.say_faults store.new.logs.site)) }
-    ensures past { IfErr result (IsPast store.old.logs.segment) }
+    ensures past { IfErr result (IsPast M.rules store.new) }
     ensures clock { result ≡ Err Halt.ClockFault
         → HasRisen (C.clock_faults clock.old) (C.clock_faults clock.new) }
     ensures ticks { C.clock_faults clock.old ≤ C.clock_faults clock.new }
@@ -305,7 +305,7 @@ fn go_round<V: Site, M: Picked, R: Reactions, A: Activities, C: Clock>(
     ensures rises { IfErr result (RisesFor (V.disk_faults store.old.logs.site)
         (V.say_faults store.old.logs.site) (V.disk_faults store.new.logs.site)
         (V.say_faults store.new.logs.site)) }
-    ensures past { IfErr result (IsPast store.old.logs.segment) }
+    ensures past { IfErr result (IsPast M.rules store.new) }
     ensures clock { result ≡ Err Halt.ClockFault
         → HasRisen (C.clock_faults clock.old) (C.clock_faults clock.new) }
     ensures ticks { C.clock_faults clock.old ≤ C.clock_faults clock.new }
@@ -358,6 +358,33 @@ fn stop_long<V: Site, M: Picked>(
     }
 }
 
+/// All that isn't settled is given up, and all that is settled was seen then. It says how many labels were settled by it.
+fn give_up<V: Site, M: Picked>(
+    alloc: Global,
+    store: &mut GatedStore<V, ByRules<M>>,
+    cells: &mut Vec<Cell<Seat<M>>>,
+    course: &mut Course,
+    mode: Mode,
+) -> Result<u64, Halt>
+    requires serving { IsServing M.origin M.rules store.old cells.old.items course.old.port }
+    ensures goes { GoesOn store.old store.new }
+    ensures kept { Keeps M.origin M.rules store.new }
+    ensures whole { result ≢ Err Halt.SayFault → store.new.logs.cut ≡ false }
+    ensures serving { OnOk result (IsServing M.origin M.rules store.new cells.new.items course.new.port) }
+    ensures rises { IfErr result (RisesFor (V.disk_faults store.old.logs.site)
+        (V.say_faults store.old.logs.site) (V.disk_faults store.new.logs.site)
+        (V.say_faults store.new.logs.site)) }
+    ensures past { IfErr result (IsPast M.rules store.new) }
+    ensures clock { result ≢ Err Halt.ClockFault }
+    ensures latest { store.new.logs.latest ≡ store.old.logs.latest }
+    ensures sees { OnOk result (course.new.seen ≡ length (trail_in store.new.logs)) }
+{
+    own_all(alloc, store, cells, course, mode)?;
+    let labels = serve_reached(alloc, store, cells, &mut course.port, &mut course.seen)?;
+    course.labels = course.labels.saturating_add(labels);
+    Ok(labels)
+}
+
 /// One round, and where it added nothing, what is possible without it. It says where rounds end, where they do.
 fn go_on<V: Site, M: Picked, R: Reactions, A: Activities, C: Clock>(
     alloc: Global,
@@ -382,7 +409,7 @@ fn go_on<V: Site, M: Picked, R: Reactions, A: Activities, C: Clock>(
     ensures rises { IfErr result (RisesFor (V.disk_faults store.old.logs.site)
         (V.say_faults store.old.logs.site) (V.disk_faults store.new.logs.site)
         (V.say_faults store.new.logs.site)) }
-    ensures past { IfErr result (IsPast store.old.logs.segment) }
+    ensures past { IfErr result (IsPast M.rules store.new) }
     ensures clock { result ≡ Err Halt.ClockFault
         → HasRisen (C.clock_faults clock.old) (C.clock_faults clock.new) }
     ensures ticks { C.clock_faults clock.old ≤ C.clock_faults clock.new }
@@ -400,7 +427,10 @@ fn go_on<V: Site, M: Picked, R: Reactions, A: Activities, C: Clock>(
     )? {
         return Ok(None);
     }
-    own_all(alloc, store, cells, course, pace.mode)?;
+    let settled = give_up(alloc, store, cells, course, pace.mode)?;
+    if settled > 0 {
+        return Ok(None);
+    }
     match pump(
         alloc, reactions, acts, clock, store, cells, course, clients, pace,
     )? {
@@ -436,7 +466,7 @@ pub fn drive<V: Site, M: Picked, R: Reactions, A: Activities, C: Clock>(
     ensures rises { IfErr result (RisesFor (V.disk_faults store.old.logs.site)
         (V.say_faults store.old.logs.site) (V.disk_faults store.new.logs.site)
         (V.say_faults store.new.logs.site)) }
-    ensures past { IfErr result (IsPast store.old.logs.segment) }
+    ensures past { IfErr result (IsPast M.rules store.new) }
     ensures clock { result ≡ Err Halt.ClockFault
         → HasRisen (C.clock_faults clock.old) (C.clock_faults clock.new) }
     ensures ticks { C.clock_faults clock.old ≤ C.clock_faults clock.new }
@@ -448,11 +478,12 @@ pub fn drive<V: Site, M: Picked, R: Reactions, A: Activities, C: Clock>(
 {
     serve_all(alloc, store, cells, &mut course.port, clients)?;
     'rounds: for _ in 0..u64::MAX {
-        let end = go_on(
+        match go_on(
             alloc, reactions, acts, clock, store, cells, course, clients, pace,
-        )?;
-        if let Some(end) = end {
-            return Ok(end);
+        ) {
+            Ok(None) => {}
+            Ok(Some(end)) => return Ok(end),
+            Err(halt) => return Err(halt),
         }
     }
     Err(Halt::Memory)

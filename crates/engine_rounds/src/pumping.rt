@@ -1,7 +1,9 @@
 //! Where a round added nothing, what is possible is done without the packets on their way.
 
-ghost use Rattle.std.specs.Prelude.{◌≡◌, ◌≢◌, ◌≤◌, ◌<◌, false, max, length, Some, Ok, Err, IfErr, OnOk};
+ghost use Rattle.std.specs.Prelude.{◌≡◌, ◌≢◌, ◌≤◌, ◌<◌, ◌+◌, false, max, length, Some, Ok, Err, IfErr, IfOk, IfSome, OnOk};
 ghost use Rattle.cell_frames.specs.Joined.{StoreView, view_of};
+ghost use Rattle.engine_rounds.specs.Adding.{Adds, MayAdd};
+ghost use Rattle.round_steps.specs.Labels.{settled_labels};
 ghost use Rattle.round_steps.specs.Serving.{GoesOn, IsServing};
 ghost use Rattle.node_core.specs.Halts.{IsPast, RisesFor};
 ghost use Rattle.client_port.specs.Clients.{clients_of};
@@ -117,6 +119,7 @@ pub(crate) fn hear<V: Site, M: Picked>(
     ensures goes { GoesOn store.old store.new }
     ensures site { store.new.logs.site ≡ store.old.logs.site }
     ensures told { told_in store.new.logs ≡ told_in store.old.logs }
+    ensures trail { trail_in store.new.logs ≡ trail_in store.old.logs }
     ensures latest { store.new.logs.latest ≡ max store.old.logs.latest now }
     ensures running { IsRunning M.origin M.rules store.new cells.new.items }
 {
@@ -143,7 +146,7 @@ fn next_due<M: Picked>(cells: &Vec<Cell<Seat<M>>>) -> Option<u64> {
 
 /// What came of pumping.
 #[derive(Clone, Copy, Drop, PartialEq, Eq)]
-pub(crate) enum Pumped {
+pub enum Pumped {
     /// So many labels were settled, at least one.
     Labels(u64),
     /// Nothing is possible any more.
@@ -168,9 +171,11 @@ fn gather<V: Site, M: Picked, A: Activities>(
     ensures rises { IfErr result (RisesFor (V.disk_faults store.old.logs.site)
         (V.say_faults store.old.logs.site) (V.disk_faults store.new.logs.site)
         (V.say_faults store.new.logs.site)) }
-    ensures past { IfErr result (IsPast store.old.logs.segment) }
+    ensures past { IfErr result (IsPast M.rules store.new) }
     ensures clock { result ≢ Err Halt.ClockFault }
     ensures latest { store.new.logs.latest ≡ store.old.logs.latest }
+    ensures trail { trail_in store.new.logs ≡ trail_in store.old.logs }
+    ensures seen { course.new.seen ≡ course.old.seen }
 {
     serve_all(alloc, store, cells, &mut course.port, clients)?;
     if bring_all(alloc, cells).is_err() {
@@ -195,6 +200,7 @@ fn push<V: Site, M: Picked, R: Reactions, A: Activities>(
     pace: &Pace,
 ) -> Result<(bool, u64), Halt>
     requires serving { IsServing M.origin M.rules store.old cells.old.items course.old.port }
+    requires seen { course.old.seen ≡ length (trail_in store.old.logs) }
     requires flows { R.flows reactions.now ≡ M.rules.flows }
     requires some { 0 < pace.now.batch }
     requires few { pace.now.batch ≤ 64 }
@@ -205,9 +211,12 @@ fn push<V: Site, M: Picked, R: Reactions, A: Activities>(
     ensures rises { IfErr result (RisesFor (V.disk_faults store.old.logs.site)
         (V.say_faults store.old.logs.site) (V.disk_faults store.new.logs.site)
         (V.say_faults store.new.logs.site)) }
-    ensures past { IfErr result (IsPast store.old.logs.segment) }
+    ensures past { IfErr result (IsPast M.rules store.new) }
     ensures clock { result ≢ Err Halt.ClockFault }
     ensures latest { store.new.logs.latest ≡ store.old.logs.latest }
+    ensures adds { IfOk result (λ both. settled_labels (trail_in store.new.logs)
+        ≡ settled_labels (trail_in store.old.logs) + both.1) }
+    ensures sees { OnOk result (course.new.seen ≡ length (trail_in store.new.logs)) }
 {
     gather(alloc, acts, store, cells, course, clients, pace.seed)?;
     let turned = step_and_commit(alloc, reactions, store, cells, course, 0, pace, 1)?;
@@ -227,6 +236,7 @@ fn rest_of<V: Site, M: Picked>(
     requires clients { clients.now ≡ clients_of M.rules.requests }
     ensures rest { result ≡ Ok (Some Pumped.Rest)
         → IsAtRest M.rules (trail_in store.now.logs) course.now.port }
+    ensures kind { IfOk result (λ come. IfSome come (λ one. one ≡ Pumped.Rest)) }
     ensures memory { IfErr result (λ halt. halt ≡ Halt.Memory) }
 {
     match is_at_rest(alloc, store, cells, &course.port, clients) {
@@ -250,6 +260,7 @@ fn push_on<V: Site, M: Picked, R: Reactions, A: Activities, C: Clock>(
 ) -> Result<Option<Pumped>, Halt>
     requires serving { IsServing M.origin M.rules store.old cells.old.items course.old.port }
     requires clients { clients.now ≡ clients_of M.rules.requests }
+    requires seen { course.old.seen ≡ length (trail_in store.old.logs) }
     requires flows { R.flows reactions.now ≡ M.rules.flows }
     requires some { 0 < pace.now.batch }
     requires few { pace.now.batch ≤ 64 }
@@ -260,7 +271,7 @@ fn push_on<V: Site, M: Picked, R: Reactions, A: Activities, C: Clock>(
     ensures rises { IfErr result (RisesFor (V.disk_faults store.old.logs.site)
         (V.say_faults store.old.logs.site) (V.disk_faults store.new.logs.site)
         (V.say_faults store.new.logs.site)) }
-    ensures past { IfErr result (IsPast store.old.logs.segment) }
+    ensures past { IfErr result (IsPast M.rules store.new) }
     ensures clock { result ≡ Err Halt.ClockFault
         → HasRisen (C.clock_faults clock.old) (C.clock_faults clock.new) }
     ensures ticks { C.clock_faults clock.old ≤ C.clock_faults clock.new }
@@ -269,6 +280,8 @@ fn push_on<V: Site, M: Picked, R: Reactions, A: Activities, C: Clock>(
         → store.new.logs.latest ≤ C.latest clock.new }
     ensures rest { result ≡ Ok (Some Pumped.Rest)
         → IsAtRest M.rules (trail_in store.new.logs) course.new.port }
+    ensures adds { IfOk result (MayAdd (trail_in store.old.logs) (trail_in store.new.logs)) }
+    ensures sees { OnOk result (course.new.seen ≡ length (trail_in store.new.logs)) }
 {
     let (turned, labels) = push(alloc, reactions, acts, store, cells, course, clients, pace)?;
     if labels > 0 {
@@ -289,8 +302,9 @@ fn push_on<V: Site, M: Picked, R: Reactions, A: Activities, C: Clock>(
     }
 }
 
-/// Labels are settled where one is possible, or nothing is.
-pub(crate) fn pump<V: Site, M: Picked, R: Reactions, A: Activities, C: Clock>(
+/// Labels are settled where one is possible, or nothing is: a label more at least, and else the call is at rest. All that was settled before
+/// was seen.
+pub fn pump<V: Site, M: Picked, R: Reactions, A: Activities, C: Clock>(
     alloc: Global,
     reactions: &R,
     acts: &A,
@@ -303,6 +317,7 @@ pub(crate) fn pump<V: Site, M: Picked, R: Reactions, A: Activities, C: Clock>(
 ) -> Result<Pumped, Halt>
     requires serving { IsServing M.origin M.rules store.old cells.old.items course.old.port }
     requires clients { clients.now ≡ clients_of M.rules.requests }
+    requires seen { course.old.seen ≡ length (trail_in store.old.logs) }
     requires flows { R.flows reactions.now ≡ M.rules.flows }
     requires some { 0 < pace.now.batch }
     requires few { pace.now.batch ≤ 64 }
@@ -313,7 +328,7 @@ pub(crate) fn pump<V: Site, M: Picked, R: Reactions, A: Activities, C: Clock>(
     ensures rises { IfErr result (RisesFor (V.disk_faults store.old.logs.site)
         (V.say_faults store.old.logs.site) (V.disk_faults store.new.logs.site)
         (V.say_faults store.new.logs.site)) }
-    ensures past { IfErr result (IsPast store.old.logs.segment) }
+    ensures past { IfErr result (IsPast M.rules store.new) }
     ensures clock { result ≡ Err Halt.ClockFault
         → HasRisen (C.clock_faults clock.old) (C.clock_faults clock.new) }
     ensures ticks { C.clock_faults clock.old ≤ C.clock_faults clock.new }
@@ -322,6 +337,8 @@ pub(crate) fn pump<V: Site, M: Picked, R: Reactions, A: Activities, C: Clock>(
         → store.new.logs.latest ≤ C.latest clock.new }
     ensures rest { result ≡ Ok Pumped.Rest
         → IsAtRest M.rules (trail_in store.new.logs) course.new.port }
+    ensures adds { IfOk result (Adds (trail_in store.old.logs) (trail_in store.new.logs)) }
+    ensures sees { OnOk result (course.new.seen ≡ length (trail_in store.new.logs)) }
 {
     'pushes: for _ in 0..u64::MAX {
         let pumped = push_on(

@@ -16,7 +16,7 @@ ghost use Rattle.hub_store.specs.Trail.{of_part, settled_at};
 ghost use Rattle.log_files.specs.Fronts.{AreSyncs};
 ghost use Rattle.many_rules.specs.Leaves.{Begins};
 ghost use Rattle.many_rules.specs.Ledgers.{ledgers};
-ghost use Rattle.node_core.specs.Halts.{IsPast, RisesFor};
+ghost use Rattle.node_core.specs.Halts.{RisesFor};
 ghost use Rattle.node_core.specs.declared.halt.Halt.{Halt as HaltedFor};
 ghost use Rattle.open_logs.specs.Begun.{CanBegin, MadeBy};
 ghost use Rattle.open_logs.specs.Moments.{OpensOnly};
@@ -193,14 +193,17 @@ fn serve_over<V: Site, N: Named, R: Reactions, C: Clock, A: Activities>(
         → Always (λ moment. Unit {0}) N.origin.steps (V.history result.site) }
     ensures unsettled { V.tells result.site → (moment : ℕ) → moment < length N.origin.steps
         → settled_at moment result.trail ≡ [] }
+    ensures settled { V.tells result.site
+        → settled_at (length (V.history result.site)) result.trail ≡ result.trail }
     ensures crash { V.tells result.site → (digest : ℕ) → Begins N.origin N.rules digest
         → LeavesRuns N.rules (C.latest result.clock) digest N.origin (V.history result.site)
         result.trail }
     ensures short { V.tells result.site → (partition : ℕ) → partition < N.origin.count
         → IsShort call.store.logs.segment (of_part partition result.trail)
         (content_of (N.origin.logs partition).file (V.history result.site)) }
-    ensures on { SaysOn N.rules pace.steps (V.tells result.site) N.origin.steps
-        (V.history result.site) result.trail result.came result.port }
+    ensures on { SaysOn N.rules N.origin call.store.logs.segment pace.steps
+        (C.latest result.clock) (V.tells result.site) (V.history result.site) result.trail
+        result.came result.port }
     ensures later { (V.disk_faults call.store.logs.site ≤ V.disk_faults result.site)
         × (V.say_faults call.store.logs.site ≤ V.say_faults result.site) }
     ensures halts { (halt : HaltedFor) → result.came ≡ Came.Halted halt
@@ -208,7 +211,6 @@ fn serve_over<V: Site, N: Named, R: Reactions, C: Clock, A: Activities>(
         (V.disk_faults result.site) (V.say_faults result.site) halt }
     ensures clock_fault { result.came ≡ Came.Halted Halt.ClockFault
         → HasRisen (C.clock_faults clock) (C.clock_faults result.clock) }
-    ensures past { (halt : HaltedFor) → result.came ≡ Came.Halted halt → IsPast call.store.logs.segment halt }
 {
     let mut clock = clock;
     let mut course = course;
@@ -274,6 +276,8 @@ fn serve_named<V: Site, N: Named, R: Reactions, C: Clock, A: Activities>(
         → Always (λ moment. Unit {0}) N.origin.steps (V.history result.site) }
     ensures unsettled { V.tells result.site → refusal_in result.came ≡ None → (moment : ℕ)
         → moment < length N.origin.steps → settled_at moment result.trail ≡ [] }
+    ensures settled { V.tells result.site → refusal_in result.came ≡ None
+        → settled_at (length (V.history result.site)) result.trail ≡ result.trail }
     ensures crash { V.tells result.site → refusal_in result.came ≡ None → (digest : ℕ)
         → Begins N.origin N.rules digest
         → LeavesRuns N.rules (C.latest result.clock) digest N.origin (V.history result.site)
@@ -281,9 +285,9 @@ fn serve_named<V: Site, N: Named, R: Reactions, C: Clock, A: Activities>(
     ensures short { V.tells result.site → refusal_in result.came ≡ None → (partition : ℕ)
         → partition < shape.count → IsShort shape.segment (of_part partition result.trail)
         (content_of (N.origin.logs partition).file (V.history result.site)) }
-    ensures on { refusal_in result.came ≡ None → SaysOn N.rules shape.pace.steps
-        (V.tells result.site) N.origin.steps (V.history result.site) result.trail result.came
-        result.port }
+    ensures on { refusal_in result.came ≡ None → SaysOn N.rules N.origin shape.segment
+        shape.pace.steps (C.latest result.clock) (V.tells result.site) (V.history result.site)
+        result.trail result.came result.port }
     ensures latest { C.latest clock ≤ C.latest result.clock }
     ensures ticks { C.clock_faults clock ≤ C.clock_faults result.clock }
     ensures later { (V.disk_faults site ≤ V.disk_faults result.site)
@@ -293,7 +297,6 @@ fn serve_named<V: Site, N: Named, R: Reactions, C: Clock, A: Activities>(
         (V.disk_faults result.site) (V.say_faults result.site) halt }
     ensures clock_fault { result.came ≡ Came.Halted Halt.ClockFault
         → HasRisen (C.clock_faults clock) (C.clock_faults result.clock) }
-    ensures past { (halt : HaltedFor) → result.came ≡ Came.Halted halt → IsPast shape.segment halt }
 {
     let count = shape.count;
     let nodes = shape.nodes;
@@ -351,7 +354,6 @@ fn serve_since<V: Site, S: Since, R: Reactions, C: Clock, A: Activities>(
         (V.disk_faults result.site) (V.say_faults result.site) halt }
     ensures clock_fault { result.came ≡ Came.Halted Halt.ClockFault
         → HasRisen (C.clock_faults clock) (C.clock_faults result.clock) }
-    ensures past { (halt : HaltedFor) → result.came ≡ Came.Halted halt → IsPast shape.segment halt }
 {
     let mut site = site;
     match open_logs(
@@ -423,7 +425,6 @@ pub fn serve<V: Site, R: Reactions, C: Clock, A: Activities>(
         (V.disk_faults result.site) (V.say_faults result.site) halt }
     ensures clock_fault { result.came ≡ Came.Halted Halt.ClockFault
         → HasRisen (C.clock_faults clock) (C.clock_faults result.clock) }
-    ensures past { (halt : HaltedFor) → result.came ≡ Came.Halted halt → IsPast shape.segment halt }
 {
     serve_since::<V, Brand, R, C, A>(alloc, site, reactions, acts, clock, requests, shape)
 }

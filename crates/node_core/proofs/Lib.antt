@@ -1,3 +1,4 @@
+pub mod Growing
 mod Owners
 pub mod Steps
 mod Turned

@@ -78,9 +78,6 @@ module _ {V N : Type 0} {G : sites.Ghosts V} {H : starts.Ghosts N} where
       let two = then.say_faults in
       rises_later (G.disk_faults a.site) (G.say_faults a.site) (G.disk_faults b.site) (G.say_faults b.site) (G.disk_faults c.site) (G.say_faults c.site) halt first.later then.later (omega (arith, one)) (omega (arith, two)) rises
 
-  pub past_behind : (a b : Store V N G H) (halt : Halt) → KeepsAll a b → IsPast b.segment halt → IsPast a.segment halt
-  past_behind a b halt keeps past = subst (λ (segment : ℕ). IsPast segment halt) keeps.segment past
-
 pub inner_rises : (disk say disk_then say_then : ℕ) (halt : Halt) → IsInner halt → RisesFor disk say disk_then say_then halt
 inner_rises disk say disk_then say_then halts.SiteFault inner = absurd inner
 inner_rises disk say disk_then say_then halts.SayFault inner = absurd inner
@@ -89,10 +86,10 @@ inner_rises disk say disk_then say_then (halts.Spent partition number) inner = t
 inner_rises disk say disk_then say_then halts.ClockFault inner = absurd inner
 inner_rises disk say disk_then say_then halts.Memory inner = tt
 
-pub inner_past : (segment : ℕ) (halt : Halt) → IsInner halt → IsPast segment halt
-inner_past segment halts.SiteFault inner = absurd inner
-inner_past segment halts.SayFault inner = absurd inner
-inner_past segment (halts.Full partition length) inner = absurd inner
-inner_past segment (halts.Spent partition number) inner = inner
-inner_past segment halts.ClockFault inner = absurd inner
-inner_past segment halts.Memory inner = tt
+pub inner_past : {V L : Type 0} {G : sites.Ghosts V} {K : starts.Ghosts (gated_types.Gated L)} (rules : Rules) (store : GatedStore V L G K) (halt : Halt) → IsInner halt → IsPast rules store halt
+inner_past rules store halts.SiteFault inner = absurd inner
+inner_past rules store halts.SayFault inner = absurd inner
+inner_past rules store (halts.Full partition length) inner = absurd inner
+inner_past rules store (halts.Spent partition number) inner = inner
+inner_past rules store halts.ClockFault inner = absurd inner
+inner_past rules store halts.Memory inner = tt

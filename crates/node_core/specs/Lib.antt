@@ -1,4 +1,5 @@
 pub mod Crews
+pub mod Growing
 pub mod Halts
 pub mod Running
 pub mod Stepping

@@ -2,7 +2,8 @@
 //! which is made safe by one call again, and each is settled.
 
 ghost use Rattle.std.specs.Prelude.{◌<◌, IfErr, OnOk};
-ghost use Rattle.hub_store.specs.Changes.{KeepsAll};
+ghost use Rattle.hub_store.specs.Changes.{KeepsAll, trail_in};
+ghost use Rattle.node_core.specs.Growing.{Grows};
 ghost use Rattle.node_core.specs.Halts.{IsPast, IsSilent, RisesFor};
 ghost use Rattle.node_core.specs.Running.{IsRunning, Keeps};
 
@@ -33,12 +34,13 @@ fn judge_part<V: Site, M: Picked>(
     requires running { IsRunning M.origin M.rules store.old cells.old.items }
     requires place { part < M.rules.count }
     ensures keeps { KeepsAll store.old.logs store.new.logs }
+    ensures grows { Grows (trail_in store.old.logs) (trail_in store.new.logs) }
     ensures kept { Keeps M.origin M.rules store.new }
     ensures running { OnOk result (IsRunning M.origin M.rules store.new cells.new.items) }
     ensures rises { IfErr result (RisesFor (V.disk_faults store.old.logs.site)
         (V.say_faults store.old.logs.site) (V.disk_faults store.new.logs.site)
         (V.say_faults store.new.logs.site)) }
-    ensures past { IfErr result (IsPast store.old.logs.segment) }
+    ensures past { IfErr result (IsPast M.rules store.new) }
     ensures silent { IfErr result IsSilent }
 {
     if crew.has_stopped(part, store.turns()) {
@@ -65,12 +67,13 @@ pub fn judge_all<V: Site, M: Picked>(
 ) -> Result<bool, Halt>
     requires running { IsRunning M.origin M.rules store.old cells.old.items }
     ensures keeps { KeepsAll store.old.logs store.new.logs }
+    ensures grows { Grows (trail_in store.old.logs) (trail_in store.new.logs) }
     ensures kept { Keeps M.origin M.rules store.new }
     ensures running { OnOk result (IsRunning M.origin M.rules store.new cells.new.items) }
     ensures rises { IfErr result (RisesFor (V.disk_faults store.old.logs.site)
         (V.say_faults store.old.logs.site) (V.disk_faults store.new.logs.site)
         (V.say_faults store.new.logs.site)) }
-    ensures past { IfErr result (IsPast store.old.logs.segment) }
+    ensures past { IfErr result (IsPast M.rules store.new) }
     ensures silent { IfErr result IsSilent }
 {
     let count = cells.len() as u32;
@@ -95,12 +98,13 @@ fn write_part<V: Site, M: Picked>(
     requires running { IsRunning M.origin M.rules store.old cells.old.items }
     requires place { part < M.rules.count }
     ensures keeps { KeepsAll store.old.logs store.new.logs }
+    ensures grows { Grows (trail_in store.old.logs) (trail_in store.new.logs) }
     ensures kept { Keeps M.origin M.rules store.new }
     ensures running { OnOk result (IsRunning M.origin M.rules store.new cells.new.items) }
     ensures rises { IfErr result (RisesFor (V.disk_faults store.old.logs.site)
         (V.say_faults store.old.logs.site) (V.disk_faults store.new.logs.site)
         (V.say_faults store.new.logs.site)) }
-    ensures past { IfErr result (IsPast store.old.logs.segment) }
+    ensures past { IfErr result (IsPast M.rules store.new) }
     ensures silent { IfErr result IsSilent }
 {
     if crew.has_stopped(part, store.turns()) {
@@ -124,12 +128,13 @@ fn write_all<V: Site, M: Picked>(
 ) -> Result<bool, Halt>
     requires running { IsRunning M.origin M.rules store.old cells.old.items }
     ensures keeps { KeepsAll store.old.logs store.new.logs }
+    ensures grows { Grows (trail_in store.old.logs) (trail_in store.new.logs) }
     ensures kept { Keeps M.origin M.rules store.new }
     ensures running { OnOk result (IsRunning M.origin M.rules store.new cells.new.items) }
     ensures rises { IfErr result (RisesFor (V.disk_faults store.old.logs.site)
         (V.say_faults store.old.logs.site) (V.disk_faults store.new.logs.site)
         (V.say_faults store.new.logs.site)) }
-    ensures past { IfErr result (IsPast store.old.logs.segment) }
+    ensures past { IfErr result (IsPast M.rules store.new) }
     ensures silent { IfErr result IsSilent }
 {
     let count = cells.len() as u32;
@@ -150,12 +155,13 @@ fn sync_all<V: Site, M: Picked>(
 ) -> Result<(), Halt>
     requires running { IsRunning M.origin M.rules store.old _cells.now }
     ensures keeps { KeepsAll store.old.logs store.new.logs }
+    ensures grows { Grows (trail_in store.old.logs) (trail_in store.new.logs) }
     ensures kept { Keeps M.origin M.rules store.new }
     ensures running { OnOk result (IsRunning M.origin M.rules store.new _cells.now) }
     ensures rises { IfErr result (RisesFor (V.disk_faults store.old.logs.site)
         (V.say_faults store.old.logs.site) (V.disk_faults store.new.logs.site)
         (V.say_faults store.new.logs.site)) }
-    ensures past { IfErr result (IsPast store.old.logs.segment) }
+    ensures past { IfErr result (IsPast M.rules store.new) }
     ensures silent { IfErr result IsSilent }
 {
     match sync_frames(alloc, store) {
@@ -177,12 +183,13 @@ fn open_part<V: Site, M: Picked>(
     requires running { IsRunning M.origin M.rules store.old _cells.now }
     requires place { part < M.rules.count }
     ensures keeps { KeepsAll store.old.logs store.new.logs }
+    ensures grows { Grows (trail_in store.old.logs) (trail_in store.new.logs) }
     ensures kept { Keeps M.origin M.rules store.new }
     ensures running { OnOk result (IsRunning M.origin M.rules store.new _cells.now) }
     ensures rises { IfErr result (RisesFor (V.disk_faults store.old.logs.site)
         (V.say_faults store.old.logs.site) (V.disk_faults store.new.logs.site)
         (V.say_faults store.new.logs.site)) }
-    ensures past { IfErr result (IsPast store.old.logs.segment) }
+    ensures past { IfErr result (IsPast M.rules store.new) }
     ensures silent { IfErr result IsSilent }
 {
     if crew.has_stopped(part, store.turns()) {
@@ -204,12 +211,13 @@ fn open_all<V: Site, M: Picked>(
 ) -> Result<(), Halt>
     requires running { IsRunning M.origin M.rules store.old cells.now }
     ensures keeps { KeepsAll store.old.logs store.new.logs }
+    ensures grows { Grows (trail_in store.old.logs) (trail_in store.new.logs) }
     ensures kept { Keeps M.origin M.rules store.new }
     ensures running { OnOk result (IsRunning M.origin M.rules store.new cells.now) }
     ensures rises { IfErr result (RisesFor (V.disk_faults store.old.logs.site)
         (V.say_faults store.old.logs.site) (V.disk_faults store.new.logs.site)
         (V.say_faults store.new.logs.site)) }
-    ensures past { IfErr result (IsPast store.old.logs.segment) }
+    ensures past { IfErr result (IsPast M.rules store.new) }
     ensures silent { IfErr result IsSilent }
 {
     let count = cells.len() as u32;
@@ -233,12 +241,13 @@ fn settle_part<V: Site, M: Picked>(
     requires running { IsRunning M.origin M.rules store.old cells.old.items }
     requires place { part < M.rules.count }
     ensures keeps { KeepsAll store.old.logs store.new.logs }
+    ensures grows { Grows (trail_in store.old.logs) (trail_in store.new.logs) }
     ensures kept { Keeps M.origin M.rules store.new }
     ensures running { OnOk result (IsRunning M.origin M.rules store.new cells.new.items) }
     ensures rises { IfErr result (RisesFor (V.disk_faults store.old.logs.site)
         (V.say_faults store.old.logs.site) (V.disk_faults store.new.logs.site)
         (V.say_faults store.new.logs.site)) }
-    ensures past { IfErr result (IsPast store.old.logs.segment) }
+    ensures past { IfErr result (IsPast M.rules store.new) }
     ensures silent { IfErr result IsSilent }
 {
     if crew.has_stopped(part, store.turns()) {
@@ -266,12 +275,13 @@ fn settle_all<V: Site, M: Picked>(
 ) -> Result<bool, Halt>
     requires running { IsRunning M.origin M.rules store.old cells.old.items }
     ensures keeps { KeepsAll store.old.logs store.new.logs }
+    ensures grows { Grows (trail_in store.old.logs) (trail_in store.new.logs) }
     ensures kept { Keeps M.origin M.rules store.new }
     ensures running { OnOk result (IsRunning M.origin M.rules store.new cells.new.items) }
     ensures rises { IfErr result (RisesFor (V.disk_faults store.old.logs.site)
         (V.say_faults store.old.logs.site) (V.disk_faults store.new.logs.site)
         (V.say_faults store.new.logs.site)) }
-    ensures past { IfErr result (IsPast store.old.logs.segment) }
+    ensures past { IfErr result (IsPast M.rules store.new) }
     ensures silent { IfErr result IsSilent }
 {
     let count = cells.len() as u32;
@@ -302,12 +312,13 @@ fn write_now<V: Site, M: Picked>(
 ) -> Result<bool, Halt>
     requires running { IsRunning M.origin M.rules store.old cells.old.items }
     ensures keeps { KeepsAll store.old.logs store.new.logs }
+    ensures grows { Grows (trail_in store.old.logs) (trail_in store.new.logs) }
     ensures kept { Keeps M.origin M.rules store.new }
     ensures running { OnOk result (IsRunning M.origin M.rules store.new cells.new.items) }
     ensures rises { IfErr result (RisesFor (V.disk_faults store.old.logs.site)
         (V.say_faults store.old.logs.site) (V.disk_faults store.new.logs.site)
         (V.say_faults store.new.logs.site)) }
-    ensures past { IfErr result (IsPast store.old.logs.segment) }
+    ensures past { IfErr result (IsPast M.rules store.new) }
     ensures silent { IfErr result IsSilent }
 {
     let count = cells.len() as u32;
@@ -330,12 +341,13 @@ pub fn commit_wave<V: Site, M: Picked>(
 ) -> Result<Wave, Halt>
     requires running { IsRunning M.origin M.rules store.old cells.old.items }
     ensures keeps { KeepsAll store.old.logs store.new.logs }
+    ensures grows { Grows (trail_in store.old.logs) (trail_in store.new.logs) }
     ensures kept { Keeps M.origin M.rules store.new }
     ensures running { OnOk result (IsRunning M.origin M.rules store.new cells.new.items) }
     ensures rises { IfErr result (RisesFor (V.disk_faults store.old.logs.site)
         (V.say_faults store.old.logs.site) (V.disk_faults store.new.logs.site)
         (V.say_faults store.new.logs.site)) }
-    ensures past { IfErr result (IsPast store.old.logs.segment) }
+    ensures past { IfErr result (IsPast M.rules store.new) }
     ensures silent { IfErr result IsSilent }
 {
     if !write_now(alloc, store, cells, crew)? {

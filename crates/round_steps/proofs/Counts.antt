@@ -1,5 +1,5 @@
 -- How many labels there are, one item and one entry after another.
-use Rattle.std.proofs.Common.{◌≡◌, ◌<◌, ◌≤◌, ◌∙◌, ℕ, ◌+◌, List, [], ◌∷◌, ◌++◌, length, length-append, take, get_or, cond, Option, Some, None, sym, ap, arith}
+use Rattle.std.proofs.Common.{◌≡◌, ◌<◌, ◌≤◌, ◌∙◌, ℕ, zero, suc, ◌+◌, ◌-◌, min, List, [], ◌∷◌, ◌++◌, length, length-append, take, drop, get_or, cond, Option, Some, None, refl, sym, ap, arith}
 use Rattle.std.specs.Prelude.{is_some}
 use Rattle.std.proofs.lemmas.List.{map_more, take_all}
 use Rattle.dura_model.specs.Entries.{and_label, labels_of}
@@ -42,7 +42,7 @@ next_item xs i x lt at =
 pub all_items : (xs : List OwnItem) (i : ℕ) → length xs ≤ i → length (labels_of (items_of (take i xs))) ≡ length (labels_of (items_of xs))
 all_items xs i end = ap (λ (l : List OwnItem). length (labels_of (items_of l))) (take_all i xs end)
 
-settled_more : (a b : List Settled) → settled_labels (a ++ b) ≡ settled_labels a + settled_labels b
+pub settled_more : (a b : List Settled) → settled_labels (a ++ b) ≡ settled_labels a + settled_labels b
 settled_more [] b = alone (settled_labels b)
 settled_more (s ∷ a) b =
     let all = length-append (labels_of s.entry.items) (labels_of_commits (commits_of (a ++ b))) in
@@ -61,3 +61,25 @@ next_entry xs i x lt at =
 
 pub all_entries : (xs : List rows.Settled) (i : ℕ) → length xs ≤ i → settled_labels (trail_of (take i xs)) ≡ settled_labels (trail_of xs)
 all_entries xs i end = ap (λ (l : List rows.Settled). settled_labels (trail_of l)) (take_all i xs end)
+
+-- ---- since so many entries
+
+behind : (list : List rows.Settled) (n : ℕ) → take (length list - n) (drop n list) ≡ drop n list
+behind [] zero = refl
+behind [] (suc n) = let none : 0 - suc n ≡ 0 = omega arith in ap (λ (m : ℕ). take {A = rows.Settled} m []) none
+behind (x ∷ xs) zero = take_all (length (x ∷ xs) - zero) (x ∷ xs) (omega arith)
+behind (x ∷ xs) (suc n) = let less : length (x ∷ xs) - suc n ≡ length xs - n = omega arith in ap (λ (m : ℕ). take m (drop n xs)) less ∙ behind xs n
+
+-- past the end there is nothing
+dropped : (list : List rows.Settled) (n : ℕ) → trail_of (drop (min n (length list)) list) ≡ drop n (trail_of list)
+dropped [] zero = refl
+dropped [] (suc n) = let none : min (suc n) 0 ≡ 0 = omega arith in ap (λ (m : ℕ). trail_of (drop {A = rows.Settled} m [])) none
+dropped (x ∷ xs) zero = let none : min 0 (length (x ∷ xs)) ≡ 0 = omega arith in ap (λ (m : ℕ). trail_of (drop m (x ∷ xs))) none
+dropped (x ∷ xs) (suc n) = let both : min (suc n) (length (x ∷ xs)) ≡ suc (min n (length xs)) = omega arith in ap (λ (m : ℕ). trail_of (drop m (x ∷ xs))) both ∙ dropped xs n
+
+pub since : (list : List rows.Settled) (trail : List Settled) (seen from n : ℕ) → trail_of list ≡ trail → from ≡ min seen (length list) → n ≡ settled_labels (trail_of (take (length list - from) (drop from list))) → n ≡ settled_labels (drop seen trail)
+since list trail seen from n is at counted =
+    counted
+    ∙ ap (λ (l : List rows.Settled). settled_labels (trail_of l)) (behind list from)
+    ∙ ap (λ (m : ℕ). settled_labels (trail_of (drop m list))) at
+    ∙ ap settled_labels (dropped list seen ∙ ap (drop seen) is)

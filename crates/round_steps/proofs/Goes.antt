@@ -1,25 +1,29 @@
 -- What a call leaves of a store, one step after another.
-use Rattle.std.proofs.Common.{◌≡◌, ◌∙◌, false, List, length, refl, sym, subst, arith}
+use Rattle.std.proofs.Common.{◌≡◌, ◌∙◌, ℕ, false, List, length, Result, Ok, Err, refl, sym, ap, subst, arith}
 use Rattle.cell_frames.specs.Joined.{StoreView, view_of}
 use Rattle.client_port.specs.Ports.{Queue}
 use Rattle.round_steps.specs.Serving.{GoesOn, HasSaid, IsServing}
 use Rattle.gated_store.specs.declared.local.Gated as gated_types
+use Rattle.gated_store.specs.declared.refusal.SayRefusal.{SayRefusal}
+use Rattle.gated_store.specs.declared.refusal.SayRefusal.TheVariants as refusals
 use Rattle.gated_store.specs.declared.store.GatedStore.{GatedStore}
-use Rattle.hub_store.specs.Changes.{KeepsAll, told_in}
+use Rattle.hub_store.specs.Changes.{KeepsAll, trail_in, told_in}
 use Rattle.hub_store.specs.Origin.{Origin}
 use Rattle.hub_store.specs.Trail.{Said}
 use Rattle.hub_store.specs.declared.start.Start as starts
 use Rattle.many_rules.specs.Rules.{Rules}
+use Rattle.node_core.proofs.Growing.{grows_not, grows_same, grows_then}
 use Rattle.node_core.proofs.Steps.{cells_run}
+use Rattle.node_core.specs.Growing.{Grows}
 use Rattle.node_core.specs.Running.{IsRunning, Keeps}
 use Rattle.site_model.specs.declared.site.Site as sites
 use Rattle.spec_cell.specs.Views.{CellView}
 use Rattle.world_steps.specs.Cells.{AllJoined}
-use Rattle.world_steps.specs.Says.{KeepsSaying}
+use Rattle.world_steps.specs.Says.{KeepsSaying, SaysAs}
 
 module _ {V L : Type 0} {G : sites.Ghosts V} {K : starts.Ghosts (gated_types.Gated L)} where
   pub goes_not : (s : GatedStore V L G K) → GoesOn s s
-  goes_not s = record { tells = λ t. t; segment = refl; latest = omega arith; disk_faults = omega arith; say_faults = omega arith }
+  goes_not s = record { tells = λ t. t; segment = refl; latest = omega arith; disk_faults = omega arith; say_faults = omega arith; grows = grows_not (trail_in s.logs) }
 
   pub goes_then : (a b c : GatedStore V L G K) → GoesOn a b → GoesOn b c → GoesOn a c
   goes_then a b c first then = record {
@@ -28,27 +32,37 @@ module _ {V L : Type 0} {G : sites.Ghosts V} {K : starts.Ghosts (gated_types.Gat
     latest = let one = first.latest in let two = then.latest in omega (arith, one, two);
     disk_faults = let one = first.disk_faults in let two = then.disk_faults in omega (arith, one, two);
     say_faults = let one = first.say_faults in let two = then.say_faults in omega (arith, one, two);
+    grows = grows_then (trail_in a.logs) (trail_in b.logs) (trail_in c.logs) first.grows then.grows;
   }
 
   -- a call on frames
-  pub goes_kept : (old new : GatedStore V L G K) → KeepsAll old.logs new.logs → GoesOn old new
-  goes_kept old new keeps = record {
+  pub goes_kept : (old new : GatedStore V L G K) → KeepsAll old.logs new.logs → Grows (trail_in old.logs) (trail_in new.logs) → GoesOn old new
+  goes_kept old new keeps grows = record {
     tells = keeps.tells;
     segment = keeps.segment;
     latest = let same = keeps.latest in omega (arith, same);
     disk_faults = keeps.later;
     say_faults = let same = keeps.say_faults in omega (arith, same);
+    grows = grows;
   }
 
   -- an answer that is said
-  pub goes_saying : (old new : GatedStore V L G K) → KeepsSaying old new → GoesOn old new
-  goes_saying old new keeps = record {
+  pub goes_saying : (old new : GatedStore V L G K) → KeepsSaying old new → trail_in new.logs ≡ trail_in old.logs → GoesOn old new
+  goes_saying old new keeps trail = record {
     tells = keeps.tells;
     segment = keeps.segment;
     latest = let same = keeps.latest in omega (arith, same);
     disk_faults = let same = keeps.disk_faults in omega (arith, same);
     say_faults = keeps.later;
+    grows = grows_same (trail_in old.logs) (trail_in new.logs) trail;
   }
+
+  -- nothing is settled by it
+  pub said_trail : (rules : Rules) (name : List ℕ) (number : ℕ) (old new : GatedStore V L G K) (result : Result (Unit {0}) SayRefusal) → SaysAs rules name number (view_of old) (view_of new) result → trail_in new.logs ≡ trail_in old.logs
+  said_trail rules name number old new (Ok done) says = ap (λ (s : StoreView). s.trail) says.1
+  said_trail rules name number old new (Err refusals.NotAnswered) says = ap (λ (s : StoreView). s.trail) says.1
+  said_trail rules name number old new (Err refusals.Memory) says = ap (λ (s : StoreView). s.trail) says
+  said_trail rules name number old new (Err refusals.SayFault) says = says.0
 
   -- cells changed that stay joined to the store
   pub cells_serve : (o : Origin) (rules : Rules) (store : GatedStore V L G K) (old new : List CellView) (queues : List Queue) → IsServing o rules store old queues → length new ≡ length old → ((s : StoreView) → AllJoined rules s old → AllJoined rules s new)

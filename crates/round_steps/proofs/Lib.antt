@@ -1,4 +1,4 @@
-mod Counts
+pub mod Counts
 pub mod Goes
 mod Names
 pub mod Queues

@@ -1,7 +1,9 @@
 //! What clients are told, and what they ask.
 
-ghost use Rattle.std.specs.Prelude.{◌≡◌, ◌≢◌, ◌≤◌, ◌<◌, false, length, Err, IfErr, OnOk};
+ghost use Rattle.std.specs.Prelude.{◌≡◌, ◌≢◌, ◌≤◌, ◌<◌, false, drop, length, Err, IfErr, IfOk, OnOk};
 ghost use Rattle.cell_frames.specs.Joined.{StoreView};
+ghost use Rattle.hub_store.specs.Changes.{trail_in};
+ghost use Rattle.round_steps.specs.Labels.{settled_labels};
 ghost use Rattle.round_steps.specs.Serving.{GoesOn, HasSaid, IsServing};
 ghost use Rattle.node_core.specs.Halts.{IsPast, RisesFor};
 ghost use Rattle.node_core.specs.Running.{Keeps};
@@ -39,9 +41,10 @@ fn tell_next<V: Site, M: Picked>(
     ensures rises { IfErr result (RisesFor (V.disk_faults store.old.logs.site)
         (V.say_faults store.old.logs.site) (V.disk_faults store.new.logs.site)
         (V.say_faults store.new.logs.site)) }
-    ensures past { IfErr result (IsPast store.old.logs.segment) }
+    ensures past { IfErr result (IsPast M.rules store.new) }
     ensures clock { result ≢ Err Halt.ClockFault }
     ensures latest { store.new.logs.latest ≡ store.old.logs.latest }
+    ensures trail { trail_in store.new.logs ≡ trail_in store.old.logs }
 {
     let Some(request) = port.next_of(client) else {
         return Ok(false);
@@ -74,9 +77,10 @@ fn tell<V: Site, M: Picked>(
     ensures rises { IfErr result (RisesFor (V.disk_faults store.old.logs.site)
         (V.say_faults store.old.logs.site) (V.disk_faults store.new.logs.site)
         (V.say_faults store.new.logs.site)) }
-    ensures past { IfErr result (IsPast store.old.logs.segment) }
+    ensures past { IfErr result (IsPast M.rules store.new) }
     ensures clock { result ≢ Err Halt.ClockFault }
     ensures latest { store.new.logs.latest ≡ store.old.logs.latest }
+    ensures trail { trail_in store.new.logs ≡ trail_in store.old.logs }
 {
     'answers: for _ in 0..MOST_REQUESTS {
         if !tell_next(alloc, store, cells, port, client)? {
@@ -132,9 +136,10 @@ fn serve_client<V: Site, M: Picked>(
     ensures rises { IfErr result (RisesFor (V.disk_faults store.old.logs.site)
         (V.say_faults store.old.logs.site) (V.disk_faults store.new.logs.site)
         (V.say_faults store.new.logs.site)) }
-    ensures past { IfErr result (IsPast store.old.logs.segment) }
+    ensures past { IfErr result (IsPast M.rules store.new) }
     ensures clock { result ≢ Err Halt.ClockFault }
     ensures latest { store.new.logs.latest ≡ store.old.logs.latest }
+    ensures trail { trail_in store.new.logs ≡ trail_in store.old.logs }
 {
     tell(alloc, store, cells, port, client)?;
     match ask(alloc, cells, port, client) {
@@ -159,9 +164,10 @@ pub fn serve_all<V: Site, M: Picked>(
     ensures rises { IfErr result (RisesFor (V.disk_faults store.old.logs.site)
         (V.say_faults store.old.logs.site) (V.disk_faults store.new.logs.site)
         (V.say_faults store.new.logs.site)) }
-    ensures past { IfErr result (IsPast store.old.logs.segment) }
+    ensures past { IfErr result (IsPast M.rules store.new) }
     ensures clock { result ≢ Err Halt.ClockFault }
     ensures latest { store.new.logs.latest ≡ store.old.logs.latest }
+    ensures trail { trail_in store.new.logs ≡ trail_in store.old.logs }
 {
     'clients: for client in clients {
         serve_client(alloc, store, cells, port, client)?;
@@ -169,7 +175,7 @@ pub fn serve_all<V: Site, M: Picked>(
     Ok(())
 }
 
-/// The clients that something reached are served. It says how many labels were settled.
+/// The clients that something reached since so many entries are served. It says how many labels were settled since, and all entries are seen.
 pub fn serve_reached<V: Site, M: Picked>(
     alloc: Global,
     store: &mut GatedStore<V, ByRules<M>>,
@@ -185,9 +191,12 @@ pub fn serve_reached<V: Site, M: Picked>(
     ensures rises { IfErr result (RisesFor (V.disk_faults store.old.logs.site)
         (V.say_faults store.old.logs.site) (V.disk_faults store.new.logs.site)
         (V.say_faults store.new.logs.site)) }
-    ensures past { IfErr result (IsPast store.old.logs.segment) }
+    ensures past { IfErr result (IsPast M.rules store.new) }
     ensures clock { result ≢ Err Halt.ClockFault }
     ensures latest { store.new.logs.latest ≡ store.old.logs.latest }
+    ensures trail { trail_in store.new.logs ≡ trail_in store.old.logs }
+    ensures labels { IfOk result (λ n. n ≡ settled_labels (drop seen.old (trail_in store.old.logs))) }
+    ensures seen { OnOk result (seen.new ≡ length (trail_in store.old.logs)) }
 {
     let Ok((reached, labels, now)) = reached_since(alloc, store, *seen) else {
         return Err(Halt::Memory);

@@ -1,6 +1,6 @@
 //! What was settled: how many labels, and which clients they reached.
 
-ghost use Rattle.std.specs.Prelude.{◌≡◌, is_some, length, if◌then◌else◌, IfOk};
+ghost use Rattle.std.specs.Prelude.{◌≡◌, is_some, drop, length, if◌then◌else◌, IfOk};
 ghost use Rattle.dura_model.specs.Entries.{labels_of};
 ghost use Rattle.dura_model.specs.Partition.{label_in};
 ghost use Rattle.hub_store.specs.Changes.{trail_in};
@@ -72,11 +72,9 @@ pub fn count_labels<V: Site, M: Picked>(
     labels_of_all(store.settled())
 }
 
-/// The clients that the items of an entry reached come behind others, and it is told how many labels the items are.
-fn note_reached(items: &[Item], reached: &mut Vec<Name>) -> Result<u64, AllocError> {
-    let mut labels: u64 = 0;
+/// The clients that the items of an entry reached come behind others.
+fn note_reached(items: &[Item], reached: &mut Vec<Name>) -> Result<(), AllocError> {
     'items: for item in items {
-        labels = labels.saturating_add(label_count(item));
         if let Item::Ran(_, Id::Client(name), _) = item {
             let name = copy_name(name)?;
             if reached.push(name).is_err() {
@@ -84,7 +82,16 @@ fn note_reached(items: &[Item], reached: &mut Vec<Name>) -> Result<u64, AllocErr
             }
         }
     }
-    Ok(labels)
+    Ok(())
+}
+
+/// The clients that these entries reached.
+fn reached_by(alloc: Global, entries: &[Settled]) -> Result<Vec<Name>, AllocError> {
+    let mut reached = Vec::new(alloc);
+    'entries: for settled in entries {
+        note_reached(settled.items.as_slice(), &mut reached)?;
+    }
+    Ok(reached)
 }
 
 /// The clients that something reached since so many entries, how many labels were settled since, and how many entries there are now.
@@ -92,14 +99,15 @@ pub(crate) fn reached_since<V: Site, M: Picked>(
     alloc: Global,
     store: &GatedStore<V, ByRules<M>>,
     seen: usize,
-) -> Result<(Vec<Name>, u64, usize), AllocError> {
-    let mut reached = Vec::new(alloc);
-    let mut labels: u64 = 0;
+) -> Result<(Vec<Name>, u64, usize), AllocError>
+    ensures labels { IfOk result (λ all. all.1
+        ≡ settled_labels (drop seen (trail_in store.now.logs))) }
+    ensures many { IfOk result (λ all. all.2 ≡ length (trail_in store.now.logs)) }
+{
     let trail = store.settled();
     let from = seen.min(trail.len());
-    'entries: for settled in &trail[from..] {
-        let more = note_reached(settled.items.as_slice(), &mut reached)?;
-        labels = labels.saturating_add(more);
-    }
+    let fresh = &trail[from..];
+    let labels = labels_of_all(fresh)?;
+    let reached = reached_by(alloc, fresh)?;
     Ok((reached, labels, trail.len()))
 }

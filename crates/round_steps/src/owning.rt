@@ -2,7 +2,8 @@
 
 ghost use Rattle.std.specs.Prelude.{◌≡◌, ◌≢◌, ◌<◌, false, Err, IfErr, OnOk};
 ghost use Rattle.round_steps.specs.Serving.{GoesOn, IsServing};
-ghost use Rattle.hub_store.specs.Changes.{KeepsAll};
+ghost use Rattle.hub_store.specs.Changes.{KeepsAll, trail_in};
+ghost use Rattle.node_core.specs.Growing.{Grows};
 ghost use Rattle.node_core.specs.Halts.{IsPast, IsSilent, RisesFor};
 ghost use Rattle.node_core.specs.Running.{IsRunning, Keeps};
 
@@ -31,12 +32,13 @@ fn own<V: Site, M: Picked>(
     requires running { IsRunning M.origin M.rules store.old cells.old.items }
     requires place { part < M.rules.count }
     ensures keeps { KeepsAll store.old.logs store.new.logs }
+    ensures grows { Grows (trail_in store.old.logs) (trail_in store.new.logs) }
     ensures kept { Keeps M.origin M.rules store.new }
     ensures running { OnOk result (IsRunning M.origin M.rules store.new cells.new.items) }
     ensures rises { IfErr result (RisesFor (V.disk_faults store.old.logs.site)
         (V.say_faults store.old.logs.site) (V.disk_faults store.new.logs.site)
         (V.say_faults store.new.logs.site)) }
-    ensures past { IfErr result (IsPast store.old.logs.segment) }
+    ensures past { IfErr result (IsPast M.rules store.new) }
     ensures silent { IfErr result IsSilent }
 {
     match take_over_at(alloc, store, cells, part, node, mode) {
@@ -76,7 +78,7 @@ fn own_part<V: Site, M: Picked>(
     ensures rises { IfErr result (RisesFor (V.disk_faults store.old.logs.site)
         (V.say_faults store.old.logs.site) (V.disk_faults store.new.logs.site)
         (V.say_faults store.new.logs.site)) }
-    ensures past { IfErr result (IsPast store.old.logs.segment) }
+    ensures past { IfErr result (IsPast M.rules store.new) }
     ensures clock { result ≢ Err Halt.ClockFault }
     ensures latest { store.new.logs.latest ≡ store.old.logs.latest }
 {
@@ -102,7 +104,7 @@ pub fn own_all<V: Site, M: Picked>(
     ensures rises { IfErr result (RisesFor (V.disk_faults store.old.logs.site)
         (V.say_faults store.old.logs.site) (V.disk_faults store.new.logs.site)
         (V.say_faults store.new.logs.site)) }
-    ensures past { IfErr result (IsPast store.old.logs.segment) }
+    ensures past { IfErr result (IsPast M.rules store.new) }
     ensures clock { result ≢ Err Halt.ClockFault }
     ensures latest { store.new.logs.latest ≡ store.old.logs.latest }
 {
@@ -132,7 +134,7 @@ fn follow_part<V: Site, M: Picked>(
     ensures rises { IfErr result (RisesFor (V.disk_faults store.old.logs.site)
         (V.say_faults store.old.logs.site) (V.disk_faults store.new.logs.site)
         (V.say_faults store.new.logs.site)) }
-    ensures past { IfErr result (IsPast store.old.logs.segment) }
+    ensures past { IfErr result (IsPast M.rules store.new) }
     ensures clock { result ≢ Err Halt.ClockFault }
     ensures latest { store.new.logs.latest ≡ store.old.logs.latest }
 {
@@ -161,7 +163,7 @@ pub fn follow_plan<V: Site, M: Picked>(
     ensures rises { IfErr result (RisesFor (V.disk_faults store.old.logs.site)
         (V.say_faults store.old.logs.site) (V.disk_faults store.new.logs.site)
         (V.say_faults store.new.logs.site)) }
-    ensures past { IfErr result (IsPast store.old.logs.segment) }
+    ensures past { IfErr result (IsPast M.rules store.new) }
     ensures clock { result ≢ Err Halt.ClockFault }
     ensures latest { store.new.logs.latest ≡ store.old.logs.latest }
 {

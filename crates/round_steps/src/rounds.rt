@@ -109,6 +109,7 @@ fn step_one<M: Picked, R: Reactions>(
         → OnOk result (AllJoined M.rules s cells.new.items) }
     ensures inner { IfErr result IsInner }
     ensures port { course.new.port ≡ course.old.port }
+    ensures seen { course.new.seen ≡ course.old.seen }
 {
     if course.crew.has_stopped(part, turns) {
         return Ok(false);
@@ -147,6 +148,7 @@ pub fn step_all<M: Picked, R: Reactions>(
         → OnOk result (AllJoined M.rules s cells.new.items) }
     ensures inner { IfErr result IsInner }
     ensures port { course.new.port ≡ course.old.port }
+    ensures seen { course.new.seen ≡ course.old.seen }
 {
     let count = cells.len() as u32;
     let mut turned = false;
@@ -174,9 +176,10 @@ fn commit_once<V: Site, M: Picked>(
     ensures rises { IfErr result (RisesFor (V.disk_faults store.old.logs.site)
         (V.say_faults store.old.logs.site) (V.disk_faults store.new.logs.site)
         (V.say_faults store.new.logs.site)) }
-    ensures past { IfErr result (IsPast store.old.logs.segment) }
+    ensures past { IfErr result (IsPast M.rules store.new) }
     ensures clock { result ≢ Err Halt.ClockFault }
     ensures latest { store.new.logs.latest ≡ store.old.logs.latest }
+    ensures seen { course.new.seen ≡ course.old.seen }
 {
     let wave = commit_wave(
         alloc,
@@ -208,9 +211,10 @@ pub fn commit_all<V: Site, M: Picked>(
     ensures rises { IfErr result (RisesFor (V.disk_faults store.old.logs.site)
         (V.say_faults store.old.logs.site) (V.disk_faults store.new.logs.site)
         (V.say_faults store.new.logs.site)) }
-    ensures past { IfErr result (IsPast store.old.logs.segment) }
+    ensures past { IfErr result (IsPast M.rules store.new) }
     ensures clock { result ≢ Err Halt.ClockFault }
     ensures latest { store.new.logs.latest ≡ store.old.logs.latest }
+    ensures seen { course.new.seen ≡ course.old.seen }
 {
     'waves: for _ in 0..MOST_WAVES {
         if !commit_once(alloc, store, cells, course, mode)? {
@@ -242,9 +246,10 @@ pub fn step_and_commit<V: Site, M: Picked, R: Reactions>(
     ensures rises { IfErr result (RisesFor (V.disk_faults store.old.logs.site)
         (V.say_faults store.old.logs.site) (V.disk_faults store.new.logs.site)
         (V.say_faults store.new.logs.site)) }
-    ensures past { IfErr result (IsPast store.old.logs.segment) }
+    ensures past { IfErr result (IsPast M.rules store.new) }
     ensures clock { result ≢ Err Halt.ClockFault }
     ensures latest { store.new.logs.latest ≡ store.old.logs.latest }
+    ensures seen { course.new.seen ≡ course.old.seen }
 {
     let turned = step_all(alloc, reactions, cells, course, turns, pace, most)?;
     commit_all(alloc, store, cells, course, pace.mode)?;
@@ -271,7 +276,7 @@ fn make_and_commit<V: Site, M: Picked, R: Reactions>(
     ensures rises { IfErr result (RisesFor (V.disk_faults store.old.logs.site)
         (V.say_faults store.old.logs.site) (V.disk_faults store.new.logs.site)
         (V.say_faults store.new.logs.site)) }
-    ensures past { IfErr result (IsPast store.old.logs.segment) }
+    ensures past { IfErr result (IsPast M.rules store.new) }
     ensures clock { result ≢ Err Halt.ClockFault }
     ensures latest { store.new.logs.latest ≡ store.old.logs.latest }
 {
@@ -311,7 +316,7 @@ pub fn round<V: Site, M: Picked, R: Reactions, A: Activities>(
     ensures rises { IfErr result (RisesFor (V.disk_faults store.old.logs.site)
         (V.say_faults store.old.logs.site) (V.disk_faults store.new.logs.site)
         (V.say_faults store.new.logs.site)) }
-    ensures past { IfErr result (IsPast store.old.logs.segment) }
+    ensures past { IfErr result (IsPast M.rules store.new) }
     ensures clock { result ≢ Err Halt.ClockFault }
     ensures latest { store.new.logs.latest ≡ store.old.logs.latest }
 {

@@ -4,6 +4,7 @@ ghost use Rattle.std.specs.Prelude.{◌≡◌, ◌≢◌, ◌≤◌, ◌<◌, �
 ghost use Rattle.cell_frames.specs.Begun.{HasBegun};
 ghost use Rattle.cell_frames.specs.Joined.{read_by, view_of};
 ghost use Rattle.cell_frames.specs.Settles.{SettlesFrame};
+ghost use Rattle.cell_frames.specs.Fills.{WouldFill};
 ghost use Rattle.cell_frames.specs.Writes.{Writes, IsFull};
 ghost use Rattle.gated_store.specs.Keeps.{KeepsGate};
 ghost use Rattle.gated_store.specs.Kept.{IsKept};
@@ -53,6 +54,8 @@ pub fn write_at<V: Site, M: Picked>(
         → CellBecomes part cells.old.items cells.new.items
         (λ c after. IsFull M.rules part marks.now c store.old.logs.segment
         (way_of store.old.logs.ways.items part) length) }
+    ensures fills { (at length : ℕ) → result ≡ Err (BodyRefusal.Full at length)
+        → WouldFill M.rules store.new at length }
     ensures trail { trail_in store.new.logs ≡ trail_in store.old.logs }
     ensures fault { result ≡ Err BodyRefusal.SiteFault → HasRisen
         (V.disk_faults store.old.logs.site) (V.disk_faults store.new.logs.site) }

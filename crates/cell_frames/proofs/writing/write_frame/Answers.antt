@@ -1,9 +1,11 @@
-use Rattle.std.proofs.Common.{◌∙◌, ℕ, Err, refl, ap, subst, arith}
+use Rattle.std.proofs.Common.{◌≡◌, ◌∙◌, ℕ, Err, refl, ap, subst, arith}
 use Rattle.std.specs.List.{All}
 use Rattle.std.proofs.lemmas.List.{length-map}
 use Rattle.cell_frames.proofs.Calls.{made_of, stays, others_keep, rests_none}
 use Rattle.cell_frames.proofs.Cells.{picked_joined, unpicked_joined}
+use Rattle.cell_frames.proofs.Filling.{fills_so}
 use Rattle.cell_frames.proofs.Written.{may_be_written_by}
+use Rattle.cell_frames.specs.Fills.{WouldFill}
 use Rattle.cell_frames.specs.Joined.{view_of}
 use Rattle.commit_gate.specs.Keeping.{GoesInside, AreOfOne}
 use Rattle.commit_gate.specs.Views.{all_sent}
@@ -115,6 +117,26 @@ returns-in-Err-SiteFault-clause-joined g c =
     (stays rules c.args.part c.args.store.now c.body.new.self c.body.ensures.keeps c.body.ensures.trail c.args.part)
     (subst (λ (n : ℕ). HasPicked rules.flows rules.count (rules.begin n) c.args.marks.now cell (entries_of c.in-Some.frame) c.in-Some.sending.items c.pick.new.self) c.requires.joined.goes.number picked)
     broken.1 c.requires.joined
+
+pub returns-in-Err-Full-clause-fills : goal.returns-in-Err-Full-clause-fills
+returns-in-Err-Full-clause-fills g c = λ at length same.
+    let rules = g.M.Picked.rules in
+    let cell = c.args.cell.now in
+    let part = c.args.part in
+    let picked = subst (λ o. Picks rules.flows rules.count (rules.begin cell.number) c.args.marks.now cell o c.pick.new.self) c.in-Some.is c.in-Ok.ensures.picks in
+    let store = c.args.store.now in
+    let new = c.body.new.self in
+    let frame = entries_of c.in-Some.frame in
+    let m = may_be_written_by g.M.Picked.origin rules c.requires.begun (view_of store) (made_of g.M.Picked.origin rules g.M.Picked.origin.count store c.requires.begun c.requires.kept) part c.requires.place
+    cell c.pick.new.self c.requires.joined (c.if-not-is_going.ensures.facts refl) c.args.marks.now frame c.in-Some.sending.items picked in
+    let is = c.in-Err-Full.is ∙ ap Err c.in-Err-Full.field-0-is in
+    let back = c.body.ensures.room c.in-Err-Full.length c.in-Err-Full.frame c.in-Err-Full.sending is in
+    let way = c.body.ensures.way c.in-Err-Full.length c.in-Err-Full.frame c.in-Err-Full.sending is in
+    let keeps = c.body.ensures.keeps.logs in
+    let filled = fills_so rules part c.in-Err-Full.length store new frame picked.some m.behind.spells m.may back.3 back.2 keeps.latest c.body.ensures.trail keeps.said way keeps.segment back.5 in
+    let there : part ≡ at = cc same in
+    let long : c.in-Err-Full.length ≡ length = cc same in
+    subst (λ (p : ℕ). WouldFill rules new p length) there (subst (λ (n : ℕ). WouldFill rules new part n) long filled)
 
 pub returns-in-Err-Full-clause-joined : goal.returns-in-Err-Full-clause-joined
 returns-in-Err-Full-clause-joined g c =

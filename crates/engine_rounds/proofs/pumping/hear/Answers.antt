@@ -4,7 +4,7 @@ use Rattle.engine_rounds.proofs.Heard.{heard_goes, heard_runs, raised}
 use Rattle.engine_rounds.proofs.pumping.hear.Goals as goal
 
 pub returns-clause-goes : goal.returns-clause-goes
-returns-clause-goes g c = let r = c.raise.ensures in heard_goes c.args.store.now c.raise.new.self c.args.now r.site r.segment r.latest
+returns-clause-goes g c = let r = c.raise.ensures in heard_goes c.args.store.now c.raise.new.self c.args.now r.site r.segment r.latest r.trail
 
 pub returns-clause-running : goal.returns-clause-running
 returns-clause-running g c =

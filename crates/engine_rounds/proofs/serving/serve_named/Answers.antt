@@ -1,9 +1,11 @@
 use Rattle.std.proofs.Common.{◌≡◌, ◌∙◌, ℕ, sym, ap, subst, arith}
 use Rattle.client_port.specs.Ports.{queues_of}
 use Rattle.engine_rounds.proofs.Opens.{first_serves}
+use Rattle.engine_rounds.specs.Served.{SaysOn}
 use Rattle.hub_store.specs.Short.{IsShort}
 use Rattle.hub_store.specs.Trail.{of_part}
 use Rattle.many_rules.specs.Rules.{Rules}
+use Rattle.round_steps.specs.declared.course.Pace.{Pace}
 use Rattle.site_model.specs.History.{content_of}
 use Rattle.engine_rounds.proofs.serving.serve_named.Goals as goal
 
@@ -29,3 +31,10 @@ returns-in-Ok-begin_call-clause-short g c = λ tells none p below.
     let same : rules.count ≡ g.N.Named.origin.count = g.N.Named.counts in
     let site = g.V.Site.history c.serve_over.result.site in
     subst (λ (n : ℕ). IsShort n (of_part p c.serve_over.result.trail) (content_of (g.N.Named.origin.logs p).file site)) c.in-Ok-begin_call.ensures.segment (c.serve_over.ensures.short tells p (omega (arith, below, count, same)))
+
+pub returns-in-Ok-begin_call-clause-on : goal.returns-in-Ok-begin_call-clause-on
+returns-in-Ok-begin_call-clause-on g c = λ none.
+    let served = c.serve_over.result in
+    let pace : c.in-Ok.pace ≡ c.args.shape.pace = c.in-Ok.ensures.pace in
+    subst (λ (n : ℕ). SaysOn g.N.Named.rules g.N.Named.origin n c.args.shape.pace.steps (g.C.Clock.latest served.clock) (g.V.Site.tells served.site) (g.V.Site.history served.site) served.trail served.came served.port) c.in-Ok-begin_call.ensures.segment
+    (subst (λ (p : Pace). SaysOn g.N.Named.rules g.N.Named.origin c.in-Ok-begin_call.call.store.logs.segment p.steps (g.C.Clock.latest served.clock) (g.V.Site.tells served.site) (g.V.Site.history served.site) served.trail served.came served.port) pace c.serve_over.ensures.on)

@@ -1,21 +1,25 @@
-use Rattle.std.proofs.Common.{◌∙◌, ℕ, List, [], Some, IfErr, IfOk, OnOk, sym, ap, subst, arith}
+use Rattle.std.proofs.Common.{◌≡◌, ◌<◌, ◌∙◌, ℕ, length, List, [], Some, IfErr, IfOk, OnOk, sym, ap, subst, arith}
 use Rattle.call_begins.proofs.Further.{run_further, nothing_before}
 use Rattle.call_begins.proofs.Says.{all_said}
 use Rattle.call_begins.specs.Says.{SaysAll}
 use Rattle.commit_gate.specs.Ledgers.{log_length}
+use Rattle.engine_rounds.proofs.Filled.{halts_for}
 use Rattle.engine_rounds.proofs.Opens.{ended_so, halted_so, stands_orderly, went_on}
 use Rattle.engine_rounds.specs.Ends.{EndsAs}
+use Rattle.engine_rounds.specs.Halts.{HaltsFor}
 use Rattle.engine_rounds.specs.Served.{LeavesRuns, came_of, refusal_in}
 use Rattle.gated_store.specs.Causal.{Causal}
 use Rattle.gated_store.specs.Follows.{ledgers_at}
+use Rattle.hub_store.proofs.EveryMoment.{all_settled}
 use Rattle.hub_store.specs.Changes.{trail_in, told_in}
 use Rattle.hub_store.specs.Short.{IsShort}
 use Rattle.hub_store.specs.Trail.{Settled, of_part, settled_at}
+use Rattle.hub_store.specs.Ways.{LogFits, way_of}
 use Rattle.many_rules.specs.Ledgers.{ledgers}
 use Rattle.node_core.specs.Halts.{IsPast, RisesFor}
 use Rattle.node_core.specs.declared.halt.Halt.TheVariants as halts
 use Rattle.round_steps.specs.Serving.{IsServing}
-use Rattle.site_model.specs.History.{back_to, content_of}
+use Rattle.site_model.specs.History.{back_to, changes_of, content_of}
 use Rattle.site_model.specs.Moments.{Always}
 use Rattle.engine_rounds.proofs.serving.serve_over.Goals as goal
 
@@ -46,6 +50,14 @@ returns-clause-unsettled g c = λ tells moment low.
     let e = c.end_call-site.ensures in
     ap (settled_at moment) e.trail ∙ nothing_before (c.drive-rounds.ensures.kept.sound.told (subst g.V.Site.tells e.site tells)).runs moment low
 
+pub returns-clause-settled : goal.returns-clause-settled
+returns-clause-settled g c = λ tells.
+    let e = c.end_call-site.ensures in
+    let logs = c.drive-rounds.new.store.logs in
+    let told = c.drive-rounds.ensures.kept.sound.told (subst g.V.Site.tells e.site tells) in
+    subst (λ (t : List Settled). settled_at (length (g.V.Site.history c.end_call-site.result.site)) t ≡ t) (sym e.trail)
+    (subst (λ site. settled_at (length (g.V.Site.history site)) (trail_in logs) ≡ trail_in logs) (sym e.site) (all_settled told.runs (length (g.V.Site.history logs.site)) (omega arith)))
+
 pub returns-clause-on : goal.returns-clause-on
 returns-clause-on g c =
     let rules = g.N.Named.rules in
@@ -62,6 +74,16 @@ returns-clause-on g c =
           let said = all_said rules o (g.V.Site.history logs.site) (trail_in logs) (told_in logs) ((h.kept.sound.told (subst g.V.Site.tells e.site tells)).rests whole) in
           subst (λ site. SaysAll rules o.steps (g.V.Site.history site) c.end_call-site.result.trail (told_in logs)) (sym e.site)
           (subst (λ (t : List Settled). SaysAll rules o.steps (g.V.Site.history logs.site) t (told_in logs)) (sym e.trail) said);
+      halts = λ halt came.
+          let is = halted_so c.drive-rounds.result halt (sym c.came_of.ensures ∙ came) in
+          let store = c.drive-rounds.new.store in
+          let past = subst (λ r. IfErr r (IsPast rules store)) is h.past in
+          let fits : g.V.Site.tells logs.site → (p : ℕ) → p < rules.count → LogFits (o.logs p) (of_part p (trail_in logs)) (changes_of (o.logs p).file (g.V.Site.history logs.site)) (way_of logs.ways.items p) =
+          λ told p below. (h.kept.sound.told told).logs p (subst (λ (n : ℕ). p < n) g.N.Named.counts below) in
+          let why = halts_for o rules store (g.C.Clock.latest c.drive-rounds.new.clock) (h.heard c.requires.latest) fits halt past in
+          subst (λ (n : ℕ). HaltsFor rules o n (g.C.Clock.latest c.drive-rounds.new.clock) (g.V.Site.tells c.end_call-site.result.site) (g.V.Site.history c.end_call-site.result.site) c.end_call-site.result.trail (told_in logs) halt) h.goes.segment
+          (subst (λ (t : List Settled). HaltsFor rules o logs.segment (g.C.Clock.latest c.drive-rounds.new.clock) (g.V.Site.tells c.end_call-site.result.site) (g.V.Site.history c.end_call-site.result.site) t (told_in logs) halt) (sym e.trail)
+          (subst (λ site. HaltsFor rules o logs.segment (g.C.Clock.latest c.drive-rounds.new.clock) (g.V.Site.tells site) (g.V.Site.history site) (trail_in logs) (told_in logs) halt) (sym e.site) why));
       ends = λ end came.
           let is = ended_so c.drive-rounds.result end (sym c.came_of.ensures ∙ came) in
           let serving = subst (λ r. OnOk r (IsServing o rules c.drive-rounds.new.store c.drive-rounds.new.cells.items c.drive-rounds.new.course.port)) is h.serving in
@@ -79,10 +101,6 @@ returns-clause-halts g c = λ halt came.
 
 pub returns-clause-clock_fault : goal.returns-clause-clock_fault
 returns-clause-clock_fault g c = λ came. c.drive-rounds.ensures.clock (halted_so c.drive-rounds.result halts.ClockFault (sym c.came_of.ensures ∙ came))
-
-pub returns-clause-past : goal.returns-clause-past
-returns-clause-past g c = λ halt came.
-    subst (λ r. IfErr r (IsPast c.args.call.store.logs.segment)) (halted_so c.drive-rounds.result halt (sym c.came_of.ensures ∙ came)) c.drive-rounds.ensures.past
 
 pub returns-clause-causal : goal.returns-clause-causal
 returns-clause-causal g c =

@@ -64,6 +64,7 @@ returns-in-Ok-clause-served g c = λ none.
       opening = λ tells. c.open_logs.ensures.during (e.tells tells);
       further = λ tells. e.further tells none;
       nothing = λ tells. e.unsettled tells none;
+      by_the_end = λ tells. e.settled tells none;
       crash = λ tells other kept moment low high files image.
           let told = e.tells tells in
           let keeps = kept_by_other flows shape.count shape.digest before c.in-Ok.begun run made.0 (theirs told) other kept in

@@ -1,4 +1,5 @@
 use Rattle.std.specs.Prelude.{◌≡◌}
+use Rattle.hub_store.specs.Changes.{trail_in}
 use Rattle.round_steps.specs.Serving.{GoesOn, IsServing}
 use Rattle.round_steps.proofs.clients.tell.Given as goal
 
@@ -8,4 +9,5 @@ invariant-answers g l = record {
   goes : GoesOn l.fn.store l.store;
   serving : IsServing g.M.Picked.origin g.M.Picked.rules l.store l.cells.items l.port;
   latest : l.store.logs.latest ≡ l.fn.store.logs.latest;
+  trail : trail_in l.store.logs ≡ trail_in l.fn.store.logs;
 }

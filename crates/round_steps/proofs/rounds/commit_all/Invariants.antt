@@ -8,4 +8,5 @@ invariant-waves g l = record {
   goes : GoesOn l.fn.store l.store;
   serving : IsServing g.M.Picked.origin g.M.Picked.rules l.store l.cells.items l.course.port;
   latest : l.store.logs.latest ≡ l.fn.store.logs.latest;
+  seen : l.course.seen ≡ l.fn.course.seen;
 }

@@ -5,4 +5,4 @@ pub parts-preserved : goal.parts-preserved
 parts-preserved g c =
     let h = c.in_ok-step_one.ensures in
     let inv = c.parts.invariant in
-    record { many = h.many ∙ inv.many; joined = λ s all. h.joined s (inv.joined s all); port = h.port ∙ inv.port }
+    record { many = h.many ∙ inv.many; joined = λ s all. h.joined s (inv.joined s all); port = h.port ∙ inv.port; seen = h.seen ∙ inv.seen }

@@ -9,4 +9,5 @@ invariant-parts g l = record {
   many : length l.cells.items ≡ length l.fn.cells.items;
   joined : (s : StoreView) → AllJoined g.M.Picked.rules s l.fn.cells.items → AllJoined g.M.Picked.rules s l.cells.items;
   port : l.course.port ≡ l.fn.course.port;
+  seen : l.course.seen ≡ l.fn.course.seen;
 }
