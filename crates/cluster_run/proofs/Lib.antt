@@ -1,2 +1,4 @@
+pub mod Done
 pub mod Ends
 pub mod Serves
+pub mod Sound

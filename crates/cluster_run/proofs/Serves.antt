@@ -1,9 +1,11 @@
 -- What serving clients comes to, as a run has it.
-use Rattle.std.proofs.Common.{◌≡◌, ◌≢◌, ◌⊎◌, ◌∙◌, inl, inr, ℕ, List, [], Option, Some, None, refl, sym, subst}
+use Rattle.std.proofs.Common.{◌≡◌, ◌≢◌, ◌⊎◌, ◌<◌, ◌∙◌, inl, inr, ℕ, List, [], Option, Some, None, refl, sym, subst}
+use Rattle.std.specs.List.{All}
 use Rattle.std.specs.Prelude.{IfSome}
 use Rattle.client_port.specs.Ports.{Queue}
 use Rattle.cluster_run.specs.Asked.{Asks, Job}
 use Rattle.cluster_run.specs.Causes.{WentBy}
+use Rattle.cluster_run.proofs.Done.{served_so}
 use Rattle.cluster_run.specs.Comes.{LeavesLogs, NotOpened, WasServed}
 use Rattle.command_words.specs.declared.words.RunOptions.{RunOptions}
 use Rattle.engine_rounds.specs.Served.{IsServed, refusal_in}
@@ -12,11 +14,10 @@ use Rattle.engine_rounds.specs.declared.serving.Came.TheVariants as cames
 use Rattle.flow_syntax.specs.Syntax.{Flows}
 use Rattle.hub_store.specs.Trail.{Settled}
 use Rattle.log_files.specs.Fronts.{AreSyncs}
-use Rattle.node_core.specs.Halts.{IsPast}
-use Rattle.node_core.specs.declared.halt.Halt.{Halt}
 use Rattle.open_logs.specs.Moments.{OpensOnly}
 use Rattle.open_logs.specs.Spent.{AreRefused, OnlySynced, WhyUnopened}
 use Rattle.open_logs.specs.declared.error.OpenError.{OpenError}
+use Rattle.rest_laws.specs.Requests.{IsRequest}
 use Rattle.run_causes.specs.declared.cause.Cause.{Cause}
 use Rattle.site_model.specs.History.{Step, content_of}
 
@@ -42,11 +43,11 @@ module _ (options : RunOptions) (job : Job) (flows : Flows) (count digest : ℕ)
   back : (P : Flows → ℕ → ℕ → Type 0) → P job.flows options.partitions job.digest → P flows count digest
   back P p = moved P job.flows flows options.partitions count job.digest digest (sym flows_are) (sym count_is) (sym digest_is) p
 
-  pub came_to : (segment steps latest : ℕ) (tells : Type 0) (came : Came) (port : Option (List Queue)) (cause : Cause) → segment ≡ options.segment → steps ≡ options.steps → WentBy came port cause → Asks options.partitions options.nodes (λ file. content_of file old) job
+  pub came_to : (segment steps latest : ℕ) (tells : Type 0) (came : Came) (port : Option (List Queue)) (cause : Cause) → 0 < options.partitions → All IsRequest job.requests → segment ≡ options.segment → steps ≡ options.steps → WentBy came port cause → Asks options.partitions options.nodes (λ file. content_of file old) job
       → (refusal_in came ≢ None → trail ≡ []) → (refusal_in came ≢ None → OpensOnly flows count digest old new) → IfSome (refusal_in came) (WhyUnopened flows count digest (λ file. content_of file old) job.requests) → IfSome (refusal_in came) (OnlySynced count old new)
-      → (refusal_in came ≡ None → IsServed flows count digest segment steps job.requests latest tells old new trail came port) → ((halt : Halt) → came ≡ cames.Halted halt → IsPast segment halt)
+      → (refusal_in came ≡ None → IsServed flows count digest segment steps job.requests latest tells old new trail came port)
       → NotOpened options (λ file. content_of file old) old new trail cause ⊎ WasServed options (λ file. content_of file old) latest tells old new trail cause
-  came_to segment steps latest tells (cames.Refused error) port cause segment_is steps_are by asks nothing opening why synced served past =
+  came_to segment steps latest tells (cames.Refused error) port cause some asked segment_is steps_are by asks nothing opening why synced served =
       inl (record {
         job = job;
         asks = asks;
@@ -57,31 +58,35 @@ module _ (options : RunOptions) (job : Job) (flows : Flows) (count digest : ℕ)
         opening = its (λ f n d. OpensOnly f n d old new) (opening (some_refusal error));
         nothing = nothing (some_refusal error);
       })
-  came_to segment steps latest tells (cames.Halted halt) port cause segment_is steps_are by asks nothing opening why synced served past =
+  came_to segment steps latest tells (cames.Halted halt) port cause some asked segment_is steps_are by asks nothing opening why synced served =
+      let now : IsServed job.flows options.partitions job.digest options.segment options.steps job.requests latest tells old new trail (cames.Halted halt) port =
+      subst (λ (s : ℕ). IsServed job.flows options.partitions job.digest s options.steps job.requests latest tells old new trail (cames.Halted halt) port) segment_is
+      (subst (λ (s : ℕ). IsServed job.flows options.partitions job.digest segment s job.requests latest tells old new trail (cames.Halted halt) port) steps_are
+      (its (λ f n d. IsServed f n d segment steps job.requests latest tells old new trail (cames.Halted halt) port) (served refl))) in
       inr (record {
         job = job;
         asks = asks;
         came = cames.Halted halt;
         port = port;
         went = refl;
-        served = subst (λ (s : ℕ). IsServed job.flows options.partitions job.digest s options.steps job.requests latest tells old new trail (cames.Halted halt) port) segment_is
-            (subst (λ (s : ℕ). IsServed job.flows options.partitions job.digest segment s job.requests latest tells old new trail (cames.Halted halt) port) steps_are
-            (its (λ f n d. IsServed f n d segment steps job.requests latest tells old new trail (cames.Halted halt) port) (served refl)));
+        served = now;
         cause_by = by;
-        past = λ other is. subst (λ (s : ℕ). IsPast s other) segment_is (past other is);
+        serves = λ told kept keeps. served_so job.flows options.partitions job.digest options.segment options.steps job.requests latest tells old new trail some asked told kept keeps (cames.Halted halt) port cause now refl by;
       })
-  came_to segment steps latest tells (cames.Ended end) port cause segment_is steps_are by asks nothing opening why synced served past =
+  came_to segment steps latest tells (cames.Ended end) port cause some asked segment_is steps_are by asks nothing opening why synced served =
+      let now : IsServed job.flows options.partitions job.digest options.segment options.steps job.requests latest tells old new trail (cames.Ended end) port =
+      subst (λ (s : ℕ). IsServed job.flows options.partitions job.digest s options.steps job.requests latest tells old new trail (cames.Ended end) port) segment_is
+      (subst (λ (s : ℕ). IsServed job.flows options.partitions job.digest segment s job.requests latest tells old new trail (cames.Ended end) port) steps_are
+      (its (λ f n d. IsServed f n d segment steps job.requests latest tells old new trail (cames.Ended end) port) (served refl))) in
       inr (record {
         job = job;
         asks = asks;
         came = cames.Ended end;
         port = port;
         went = refl;
-        served = subst (λ (s : ℕ). IsServed job.flows options.partitions job.digest s options.steps job.requests latest tells old new trail (cames.Ended end) port) segment_is
-            (subst (λ (s : ℕ). IsServed job.flows options.partitions job.digest segment s job.requests latest tells old new trail (cames.Ended end) port) steps_are
-            (its (λ f n d. IsServed f n d segment steps job.requests latest tells old new trail (cames.Ended end) port) (served refl)));
+        served = now;
         cause_by = by;
-        past = λ other is. subst (λ (s : ℕ). IsPast s other) segment_is (past other is);
+        serves = λ told kept keeps. served_so job.flows options.partitions job.digest options.segment options.steps job.requests latest tells old new trail some asked told kept keeps (cames.Ended end) port cause now refl by;
       })
 
   -- files that are to be refused are left

@@ -1,16 +1,17 @@
 -- What a run over many partitions comes to.
-use Rattle.std.specs.Prelude.{◌≡◌, ◌⊎◌, ℕ, List, [], Option, Some, None}
+use Rattle.std.specs.Prelude.{◌≡◌, ◌⊎◌, ℕ, true, List, [], Option, Some, None}
+use Rattle.call_begins.specs.Begins.{call_rules}
 use Rattle.client_port.specs.Ports.{Queue}
 use Rattle.cluster_run.specs.Asked.{Job, Asks}
 use Rattle.cluster_run.specs.Causes.{WentBy, cause_of_open}
+use Rattle.cluster_run.specs.Served.{HasServed}
 use Rattle.command_words.specs.declared.words.RunOptions.{RunOptions}
 use Rattle.engine_rounds.specs.Served.{IsServed, refusal_in}
 use Rattle.engine_rounds.specs.declared.serving.Came.{Came}
-use Rattle.engine_rounds.specs.declared.serving.Came.TheVariants as cames
 use Rattle.hub_store.specs.Trail.{Settled}
 use Rattle.log_files.specs.Fronts.{AreSyncs}
-use Rattle.node_core.specs.Halts.{IsPast}
-use Rattle.node_core.specs.declared.halt.Halt.{Halt}
+use Rattle.many_logs.specs.Placing.{Commit}
+use Rattle.many_logs.specs.Stands.{AreKept}
 use Rattle.open_logs.specs.Moments.{OpensOnly}
 use Rattle.open_logs.specs.Spent.{AreRefused, OnlySynced, WhyUnopened}
 use Rattle.open_logs.specs.declared.error.OpenError.{OpenError}
@@ -38,7 +39,8 @@ pub record NotOpened (options : RunOptions) (files : ℕ → List ℕ) (old new 
   pub opening : OpensOnly job.flows options.partitions job.digest old new
   pub nothing : trail ≡ []
 
--- The clients were served, and it ended for this.
+-- The clients were served, and it ended for this. Where nothing is possible any more, what the files kept and what was settled have served
+-- the requests, or all but those that wait.
 pub record WasServed (options : RunOptions) (files : ℕ → List ℕ) (latest : ℕ) (tells : Type 0) (old new : List Step) (trail : List Settled) (cause : Cause) : Type 0 where
   pub job : Job
   pub asks : Asks options.partitions options.nodes files job
@@ -47,7 +49,8 @@ pub record WasServed (options : RunOptions) (files : ℕ → List ℕ) (latest :
   pub went : refusal_in came ≡ None
   pub served : IsServed job.flows options.partitions job.digest options.segment options.steps job.requests latest tells old new trail came port
   pub cause_by : WentBy came port cause
-  pub past : (halt : Halt) → came ≡ cames.Halted halt → IsPast options.segment halt
+  pub serves : tells → (kept : List Commit) → AreKept job.flows options.partitions job.digest files kept
+      → HasServed (call_rules job.flows options.partitions served.begun served.run job.requests true) trail cause
 
 -- what a run with these options comes to, by what its files held at the start
 abbrev pub ComesTo : RunOptions → (files : ℕ → List ℕ) → (latest : ℕ) → (tells : Type 0) → (old new : List Step) → List Settled → Cause → Type 0

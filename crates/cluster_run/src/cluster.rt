@@ -4,6 +4,7 @@ ghost use Rattle.std.specs.Prelude.{◌≡◌, ◌≢◌, ◌⊎◌, ◌≤◌, 
 ghost use Rattle.cluster_run.specs.Asked.{Asks, job_of};
 ghost use Rattle.cluster_run.specs.Causes.{IsRefusal};
 ghost use Rattle.cluster_run.specs.Comes.{AreUnfit, ComesTo, KeepsFiles, LeavesLogs, NotOpened, WasServed};
+ghost use Rattle.cluster_run.specs.Complete.{AreFit, IsSound, NoneRose};
 ghost use Rattle.cluster_run.specs.Faults.{FaultsRise, faults_of};
 ghost use Rattle.open_logs.specs.Spent.{AreRefused};
 ghost use Rattle.run_causes.specs.Causes.{status_of};
@@ -144,6 +145,11 @@ pub fn run_cluster<V: Site, C: Clock, A: Activities>(
         (faults_of (V.disk_faults site) (V.say_faults site) (C.clock_faults clock))
         (faults_of (V.disk_faults result.site) (V.say_faults result.site)
         (C.clock_faults result.clock)) }
+    ensures complete { V.tells result.site
+        → AreFit options (λ file. content_of file (V.history site))
+        → NoneRose (faults_of (V.disk_faults site) (V.say_faults site) (C.clock_faults clock))
+        (faults_of (V.disk_faults result.site) (V.say_faults result.site)
+        (C.clock_faults result.clock)) → IsSound result.cause }
 {
     match read_input(alloc, &mut site, options.partitions, options.nodes) {
         Ok(input) => run_input(alloc, site, clock, acts, input, options),

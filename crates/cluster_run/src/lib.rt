@@ -2,7 +2,8 @@
 //! ended is told as a cause.
 //!
 //! - `ended` is what a call gives back, and `causes` are the causes by what the layers below answer (`specs/Causes`).
-//! - `cluster` is the run ([`run_cluster`]); `specs/Comes` is what it comes to.
+//! - `cluster` is the run ([`run_cluster`]); `specs/Comes` is what it comes to, and `specs/Complete` how it may end where nothing is wrong with
+//!   its files and the outside doesn't fail.
 #![tactic(auto)]
 
 mod causes;
