@@ -195,7 +195,7 @@ trial_cluster_kills() {
         for i in $(seq 12); do
             at=$(printf '0.%03d' $((RANDOM % 60)))
             # shellcheck disable=SC2086
-            { timeout -s KILL "$at" "$program" "$work/d" run --nodes 2 $options >/dev/null 2>&1; } 2>/dev/null
+            { timeout --foreground -s KILL "$at" "$program" "$work/d" run --nodes 2 $options >/dev/null 2>&1; } 2>/dev/null
         done
         # shellcheck disable=SC2086
         "$program" "$work/d" run --nodes 2 $options >"$work/stdout" 2>"$work/stderr"
