@@ -46,7 +46,7 @@ pub record IsNoFault (cause : Cause) : Type 0 where
   pub tape : cause ≢ SayFault
   pub clock : cause ≢ ClockFault
 
-no_fault : (cause : Cause) (old new : Faults) → FaultsRise cause old new → NoneRose old new → IsNoFault cause
+pub no_fault : (cause : Cause) (old new : Faults) → FaultsRise cause old new → NoneRose old new → IsNoFault cause
 no_fault cause old new rise none = record {
   disk = λ is. not_risen old.disk new.disk (ap (λ (f : Faults). f.disk) none.same) none.disk (rise.of_disk is);
   tape = λ is. not_risen old.tape new.tape (ap (λ (f : Faults). f.tape) none.same) none.tape (rise.of_tape is);
@@ -78,7 +78,7 @@ late_sound (Unclosed partition position src seq) late none = absurd late
 late_sound (OtherShape found asked) late none = absurd late
 late_sound (OtherFlows found given) late none = absurd late
 
-not_both : (refusal : Option Cause) (cause : Cause) → refusal ≡ None → refusal ≡ Some cause → ⊥
+pub not_both : (refusal : Option Cause) (cause : Cause) → refusal ≡ None → refusal ≡ Some cause → ⊥
 not_both refusal cause accepted refused = let wrong : None ≡ Some cause = sym accepted ∙ refused in cc wrong
 
 -- input files that are accepted

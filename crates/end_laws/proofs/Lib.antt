@@ -1,5 +1,6 @@
 pub mod Ends
 pub mod FileAsked
+mod Labels
 mod LineAsked
 mod Lists
 pub mod Told

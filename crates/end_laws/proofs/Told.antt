@@ -41,7 +41,7 @@ module _ (rules : Rules) where
   has_at states name number = is_some ((states (home rules.count (client name))).answers (client name) number)
 
   -- an answer stays, whatever is settled
-  stays : (run : List Commit) (before later : ℕ → Partition) → states_after rules.flows rules.count before run ≡ Some later → (name : List ℕ) (number : ℕ) → has_at before name number ≡ true → has_at later name number ≡ true
+  pub stays : (run : List Commit) (before later : ℕ → Partition) → states_after rules.flows rules.count before run ≡ Some later → (name : List ℕ) (number : ℕ) → has_at before name number ≡ true → has_at later name number ≡ true
   stays run before later made name number is =
       let place = home rules.count (client name) in
       (requests_stay rules.flows rules.count (before place) (later place) (of_partition place run) (own_chain rules.flows rules.count run before later place made)).answered (client name) number is

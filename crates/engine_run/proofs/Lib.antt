@@ -17,6 +17,7 @@ pub mod Refusing
 pub mod Runs
 pub mod Served
 pub mod Shown
+pub mod Sound
 pub mod Standing
 pub mod Starting
 pub mod Stirred

@@ -4,6 +4,7 @@ ghost use Rattle.std.specs.Prelude.{◌≡◌, ◌≢◌, ◌⊎◌, ◌≤◌, 
 ghost use Rattle.command_words.specs.Command.{call_in};
 ghost use Rattle.cluster_run.specs.Causes.{IsRefusal};
 ghost use Rattle.engine_run.specs.Causes.{AsksFor, CauseHolds, AreRefused, LeavesAll, Untouched};
+ghost use Rattle.engine_run.specs.Complete.{EndsSoundly};
 ghost use Rattle.engine_run.specs.Ends.{terms_of};
 ghost use Rattle.engine_run.specs.Headline.{Headline};
 ghost use Rattle.cluster_run.specs.Asked.{Job};
@@ -99,6 +100,13 @@ pub fn run_alone<V: Site, C: Clock, A: Activities>(
         (faults_of (V.disk_faults site) (V.say_faults site) (C.clock_faults clock))
         (faults_of (V.disk_faults result.site) (V.say_faults result.site)
         (C.clock_faults result.clock)) }
+
+    // Where the files are fit and nothing outside failed, it ends for a cause that lies with neither.
+    ensures complete { EndsSoundly words.now (V.tells result.site)
+        (λ file. content_of file (V.history site))
+        (faults_of (V.disk_faults site) (V.say_faults site) (C.clock_faults clock))
+        (faults_of (V.disk_faults result.site) (V.say_faults result.site)
+        (C.clock_faults result.clock)) result.cause }
 {
     match read_words(alloc, words) {
         Ok(Call::Run(options)) => {
@@ -153,6 +161,13 @@ pub fn run<R: Threads + Wait + Sync, V: Site + Send, C: Clock + Send, A: Activit
         (faults_of (V.disk_faults site) (V.say_faults site) (C.clock_faults clock))
         (faults_of (V.disk_faults result.site) (V.say_faults result.site)
         (C.clock_faults result.clock)) }
+
+    // Where the files are fit and nothing outside failed, it ends for a cause that lies with neither.
+    ensures complete { EndsSoundly words.now (V.tells result.site)
+        (λ file. content_of file (V.history site))
+        (faults_of (V.disk_faults site) (V.say_faults site) (C.clock_faults clock))
+        (faults_of (V.disk_faults result.site) (V.say_faults result.site)
+        (C.clock_faults result.clock)) result.cause }
 {
     let _ = rt;
     run_alone(alloc, words, site, clock, acts)

@@ -2,6 +2,7 @@
 
 ghost use Rattle.std.specs.Prelude.{◌≡◌, ◌⊎◌, ◌<◌, [], None};
 ghost use Rattle.command_words.specs.Command.{call_in};
+ghost use Rattle.engine_run.specs.Complete.{EndsSoundly};
 ghost use Rattle.engine_run.specs.Ends.{terms_of};
 ghost use Rattle.cluster_run.specs.Faults.{faults_of, FaultsRise};
 ghost use Rattle.engine_run.specs.Promises.{Promises};
@@ -10,6 +11,7 @@ ghost use Rattle.run_causes.specs.Causes.{status_of};
 ghost use Rattle.site_calls.specs.Events.{Tells};
 ghost use Rattle.site_calls.specs.Failures.{disk_failures, say_failures};
 ghost use Rattle.site_calls.specs.Site.{calls_of, disk_faults_of, say_faults_of};
+ghost use Rattle.site_model.specs.History.{content_of};
 
 use crate::call::run;
 use activity_table::Activities;
@@ -63,6 +65,13 @@ pub fn run_recorded<
         → 0 < disk_failures (C.events (calls_of result.site)) }
     ensures say_fault_call { result.cause ≡ Cause.SayFault
         → 0 < say_failures (C.events (calls_of result.site)) }
+
+    // Where the files are fit and nothing outside failed, it ends for a cause that lies with neither.
+    ensures complete { EndsSoundly words.now (Tells S.unseen (C.events (calls_of result.site)))
+        (λ file. content_of file (steps_before S.unseen))
+        (faults_of (disk_faults_of site) (say_faults_of site) (K.clock_faults clock))
+        (faults_of (disk_faults_of result.site) (say_faults_of result.site)
+        (K.clock_faults result.clock)) result.cause }
 {
     run(rt, alloc, words, site, clock, acts)
 }

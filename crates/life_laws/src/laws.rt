@@ -1,14 +1,13 @@
 //! Laws. The functions do nothing.
 
-ghost use Rattle.std.specs.Prelude.{◌≡◌, ◌≤◌, ℕ, false, List, [], length, Ok};
+ghost use Rattle.std.specs.Prelude.{◌≡◌, ◌≤◌, ℕ, false, List, length, Ok};
 ghost use Rattle.cell_steps.specs.declared.mode.Mode.{Mode};
 ghost use Rattle.flow_syntax.specs.Syntax.{Flows};
+ghost use Rattle.hub_store.specs.Trail.{Settled};
+ghost use Rattle.join_laws.specs.Joined.{IsOneLife, life_at};
 ghost use Rattle.life_laws.specs.Composed.{ShowsRun};
-ghost use Rattle.life_laws.specs.Joined.{KeepsOn, AllKeep, Life, IsOneLife, LivesOn, AreJoined};
-ghost use Rattle.many_logs.specs.Placing.{Commit};
-ghost use Rattle.many_logs.specs.Stands.{AreKept};
 ghost use Rattle.many_rules.specs.Rules.{Rules};
-ghost use Rattle.site_model.specs.History.{Step, IsImage};
+ghost use Rattle.site_model.specs.History.{Step};
 ghost use Rattle.world_core.specs.World.{WorldView};
 ghost use Rattle.world_core.specs.declared.answer.Answer.{Answer};
 ghost use Rattle.world_judges.specs.Judging.{JudgesAll};
@@ -38,27 +37,12 @@ pub fn judged_lives_hold_nothing_lost()
         → HoldsNothingLost rules made new }
 {}
 
-/// Lives may begin on files that keep just a run, and where nothing has happened yet, by which no entry is kept.
-pub fn lives_may_begin()
-    ensures kept { (flows : Flows) (count digest : ℕ) (run : List Commit) (files : ℕ → List ℕ)
-        → AreKept flows count digest files run → KeepsOn flows count digest run files }
-    ensures new { (flows : Flows) (count digest : ℕ) → AllKeep flows count digest [] [] }
-{}
-
 /// A life over a site that tells is one life, at each moment of it.
 pub fn told_lives_are_lives<V: Site>()
-    ensures { (flows : Flows) (count digest : ℕ) (life : Life) (site : V) → V.tells site
-        → IsLife flows count digest life.mode life.nodes (V.tells site) life.old life.new life.done
-        life.came life.trail → length life.old ≤ life.moment → life.moment ≤ length life.new
-        → IsOneLife flows count digest life }
-{}
-
-/// Whatever number of lives there were, each begun on what a crash at any moment left of the one before: what a crash leaves of the
-/// last stands for one run of all partitions, which extends the one at the start; and what any of them settled or said is that run's.
-#[tactic(auto, using(crate::proofs::Joined::lives_joined))]
-pub fn lives_are_joined()
-    ensures { (flows : Flows) (count digest : ℕ) (first last : List Step) (run : List Commit)
-        (lives : List Life) → AllKeep flows count digest run first
-        → LivesOn flows count digest first lives last → (image : ℕ → List ℕ) → IsImage last image
-        → AreJoined flows count digest run lives image }
+    ensures { (flows : Flows) (count digest : ℕ) (mode : Mode) (nodes : ℕ) (old new : List Step)
+        (done : List Deed) (came : List Answer) (trail : List Settled) (moment : ℕ) (site : V)
+        → V.tells site
+        → IsLife flows count digest mode nodes (V.tells site) old new done came trail
+        → length old ≤ moment → moment ≤ length new
+        → IsOneLife flows count digest (life_at old new trail moment) }
 {}

@@ -1,15 +1,14 @@
 -- What files keep, where lives begin, and what they are.
 use Rattle.std.proofs.Common.{◌≡◌, ◌≤◌, ◌<◌, ◌==◌, ◌++◌, ◌∷◌, ℕ, zero, suc, Bool, true, false, if◌then◌else◌, List, [], Some, refl, sym, ap, subst, ◌∙◌, arith, length, length-append, inl, inr}
 use Rattle.std.specs.List.{All, Contains}
-use Rattle.cell_steps.specs.declared.mode.Mode.{Mode}
 use Rattle.commit_log.specs.Segment.{header_at, frame_at as framed_at}
 use Rattle.dura_codec.specs.Fields.{several_at, run_at, count_at}
 use Rattle.dura_value.specs.Dependencies.{Committed, Founded, named_by}
 use Rattle.dura_value.specs.Dependencies.Founded.{none, one_more}
 use Rattle.dura_value.specs.Items.{Entry}
 use Rattle.flow_syntax.specs.Syntax.{Flows}
-use Rattle.life_laws.proofs.Starting.{just_kept, nothing_kept}
-use Rattle.life_laws.specs.Joined.{KeepsOn, BeginsOn, IsOneLife, IsSettledIn}
+use Rattle.join_laws.proofs.Starting.{just_kept, nothing_kept}
+use Rattle.join_laws.specs.Joined.{KeepsOn, BeginsOn, IsOneLife, IsSettledIn}
 use Rattle.many_logs.specs.Names.{committed_in, identities_in}
 use Rattle.many_logs.specs.Placing.{Commit, AllBelow, of_partition}
 use Rattle.many_logs.specs.Stands.{asked_at, AreKept}
@@ -20,9 +19,9 @@ use Rattle.part_items.specs.Kept.{entries_from}
 use Rattle.part_items.specs.Logs.{logs_in, entries_in}
 use Rattle.part_items.specs.Numbered.{position_at, incarnation_at, next_entry_at, next_entries_at, next_frame_at}
 use Rattle.site_model.specs.History.{Step, wrote, reads, Leaves, IsImage, content_of}
+use Rattle.site_model.specs.Moments.{Always}
 use Rattle.site_model.specs.Moments.Always.{begins}
 use Rattle.world_examples.specs.Histories.{byte_written, byte_open, byte_beyond, first_of, never_was, letting, letting_go, letting_files, quiet, behind_byte, settles_first, never_lived, WasOrOpened}
-use Rattle.world_lives.proofs.Going.{all_answered}
 
 -- ---- what files keep
 
@@ -147,33 +146,45 @@ not_left = (
 opens : (flows : Flows) (count digest : ℕ) (steps : List Step) → OpensOnly flows count digest steps steps
 opens flows count digest steps run kept = begins (record { silent = refl; images = λ image is. inl is; others = λ file is. refl })
 
-pub is_one : (flows : Flows) (count digest : ℕ) (mode : Mode) (nodes : ℕ) → IsOneLife flows count digest (quiet mode nodes 0)
-is_one flows count digest mode nodes = record { lived = inr (opens flows count digest [], refl); begun = omega arith; within = omega arith }
+pub is_one : (flows : Flows) (count digest : ℕ) → IsOneLife flows count digest (quiet 0)
+is_one flows count digest = record { lived = inr (opens flows count digest [], refl); begun = omega arith; within = omega arith }
 
--- an answer needs a deed
-not_lived : (flows : Flows) (count digest : ℕ) (mode : Mode) (nodes : ℕ) → WasOrOpened flows count digest (never_lived mode nodes 0) → ⊥
-not_lived flows count digest mode nodes (inl life) = let e : 1 ≡ 0 = all_answered _ mode nodes life.was.first life.was.last [] (never_lived mode nodes 0).came life.was.lives in omega (arith, e)
-not_lived flows count digest mode nodes (inr opened) = let nothing = opened.1 in cc nothing
+-- where nothing happened, logs were opened before nothing happened
+none_before : {P : List Step → Type 0} (steps : List Step) → Always P steps [] → steps ≡ []
+none_before steps (begins here) = refl
 
-pub lacks_lived : (flows : Flows) (count digest : ℕ) (mode : Mode) (nodes : ℕ) → (0 ≤ 0) × (0 ≤ 0) × (IsOneLife flows count digest (never_lived mode nodes 0) → ⊥)
-lacks_lived flows count digest mode nodes = (omega arith, omega arith, λ one. not_lived flows count digest mode nodes one.lived)
+-- files without bytes keep no entry
+keeps_none : (flows : Flows) (count digest : ℕ) (more : List Commit) → AreKept flows count digest (λ file. []) (first_of 0 ∷ more) → ⊥
+keeps_none flows count digest more kept = let there : Some [] ≡ Some ((first_of 0).entry ∷ of_partition 0 more) = kept.kept 0 kept.below.0 in cc there
 
-pub lacks_begun : (flows : Flows) (count digest : ℕ) (mode : Mode) (nodes : ℕ) → WasOrOpened flows count digest (behind_byte mode nodes 0) × (0 ≤ 1) × (IsOneLife flows count digest (behind_byte mode nodes 0) → ⊥)
-lacks_begun flows count digest mode nodes = (inr (opens flows count digest (behind_byte mode nodes 0).old, refl), omega arith, λ one. let late : 1 ≤ 0 = one.begun in omega (arith, late))
+-- an entry that was settled is kept
+not_lived : (flows : Flows) (count digest : ℕ) → WasOrOpened flows count digest never_lived → ⊥
+not_lived flows count digest (inl went) =
+    let none : went.origin.steps ≡ [] = none_before went.origin.steps went.further in
+    let long = ap length none in
+    let on = (went.crash [] (nothing_kept flows count digest (λ file. []) (record { each = λ file. refl })).kept 0 (omega (arith, long)) (omega arith) (λ file. []) (record { each = λ file. refl })).1 in
+    keeps_none flows count digest _ on.kept
+not_lived flows count digest (inr opened) = let nothing = opened.1 in cc nothing
 
-pub lacks_within : (flows : Flows) (count digest : ℕ) (mode : Mode) (nodes : ℕ) → WasOrOpened flows count digest (quiet mode nodes 1) × (0 ≤ 1) × (IsOneLife flows count digest (quiet mode nodes 1) → ⊥)
-lacks_within flows count digest mode nodes = (inr (opens flows count digest [], refl), omega arith, λ one. let late : 1 ≤ 0 = one.within in omega (arith, late))
+pub lacks_lived : (flows : Flows) (count digest : ℕ) → (0 ≤ 0) × (0 ≤ 0) × (IsOneLife flows count digest never_lived → ⊥)
+lacks_lived flows count digest = (omega arith, omega arith, λ one. not_lived flows count digest one.lived)
+
+pub lacks_begun : (flows : Flows) (count digest : ℕ) → WasOrOpened flows count digest (behind_byte 0) × (0 ≤ 1) × (IsOneLife flows count digest (behind_byte 0) → ⊥)
+lacks_begun flows count digest = (inr (opens flows count digest (behind_byte 0).old, refl), omega arith, λ one. let late : 1 ≤ 0 = one.begun in omega (arith, late))
+
+pub lacks_within : (flows : Flows) (count digest : ℕ) → WasOrOpened flows count digest (quiet 1) × (0 ≤ 1) × (IsOneLife flows count digest (quiet 1) → ⊥)
+lacks_within flows count digest = (inr (opens flows count digest [], refl), omega arith, λ one. let late : 1 ≤ 0 = one.within in omega (arith, late))
 
 -- ---- what is settled in a run
 
-pub settled_there : (mode : Mode) (nodes : ℕ) → IsSettledIn (first_of 1 ∷ first_of 0 ∷ first_of 2 ∷ []) (settles_first mode nodes 1)
-settled_there mode nodes = record { front = first_of 1 ∷ []; rest = first_of 2 ∷ []; split = refl }
+pub settled_there : IsSettledIn (first_of 1 ∷ first_of 0 ∷ first_of 2 ∷ []) (settles_first 1)
+settled_there = record { front = first_of 1 ∷ []; rest = first_of 2 ∷ []; split = refl }
 
-pub settled_later : (mode : Mode) (nodes : ℕ) → IsSettledIn [] (settles_first mode nodes 0)
-settled_later mode nodes = record { front = []; rest = []; split = refl }
+pub settled_later : IsSettledIn [] (settles_first 0)
+settled_later = record { front = []; rest = []; split = refl }
 
-pub settled_nowhere : (mode : Mode) (nodes : ℕ) → IsSettledIn [] (settles_first mode nodes 1) → ⊥
-settled_nowhere mode nodes is =
+pub settled_nowhere : IsSettledIn [] (settles_first 1) → ⊥
+settled_nowhere is =
     let e = ap length is.split in
     let f = length-append (is.front ++ first_of 0 ∷ []) is.rest in
     let g = length-append is.front (first_of 0 ∷ []) in
@@ -188,5 +199,5 @@ not_other (one ∷ front) rest is =
     let g = length-append front (first_of 0 ∷ []) in
     omega (arith, e, f, g)
 
-pub settled_elsewhere : (mode : Mode) (nodes : ℕ) → IsSettledIn (first_of 1 ∷ []) (settles_first mode nodes 1) → ⊥
-settled_elsewhere mode nodes is = not_other is.front is.rest is.split
+pub settled_elsewhere : IsSettledIn (first_of 1 ∷ []) (settles_first 1) → ⊥
+settled_elsewhere is = not_other is.front is.rest is.split

@@ -1,15 +1,12 @@
 -- Small histories, what files keep, and lives in which little happened.
 use Rattle.std.specs.Prelude.{◌≡◌, ◌⊎◌, ◌==◌, ℕ, List, [], ◌∷◌, ◌++◌, take, slice_set, if◌then◌else◌}
-use Rattle.cell_steps.specs.declared.mode.Mode.{Mode}
 use Rattle.dura_value.specs.Items.{Entry, Identity, trim}
 use Rattle.flow_syntax.specs.Syntax.{Flows}
-use Rattle.life_laws.specs.Joined.{Life}
+use Rattle.join_laws.specs.Joined.{Life, WentOn}
 use Rattle.many_logs.specs.Placing.{Commit}
 use Rattle.open_logs.specs.Moments.{OpensOnly}
 use Rattle.part_items.specs.Examples.{empty_log}
 use Rattle.site_model.specs.History.{Step, on, said, wrote}
-use Rattle.world_core.specs.declared.answer.Answer.TheVariants as answers
-use Rattle.world_lives.specs.Lives.{IsLife}
 
 -- ---- histories
 
@@ -60,21 +57,21 @@ letting_files file = if file == 20 then letting_log else []
 -- ---- lives
 
 -- nothing happened
-abbrev pub quiet : Mode → (nodes moment : ℕ) → Life
-quiet mode nodes moment = record { mode = mode; nodes = nodes; old = []; new = []; done = []; came = []; trail = []; moment = moment }
+abbrev pub quiet : (moment : ℕ) → Life
+quiet moment = record { old = []; new = []; trail = []; moment = moment }
 
 -- it began where a byte had been said
-abbrev pub behind_byte : Mode → (nodes moment : ℕ) → Life
-behind_byte mode nodes moment = record (quiet mode nodes moment) { old = said 66 ∷ []; new = said 66 ∷ [] }
+abbrev pub behind_byte : (moment : ℕ) → Life
+behind_byte moment = record { old = said 66 ∷ []; new = said 66 ∷ []; trail = []; moment = moment }
 
 -- an entry was settled at moment 1
-abbrev pub settles_first : Mode → (nodes moment : ℕ) → Life
-settles_first mode nodes moment = record (quiet mode nodes moment) { new = said 66 ∷ []; trail = record { partition = 0; entry = (first_of 0).entry; at = 1 } ∷ [] }
+abbrev pub settles_first : (moment : ℕ) → Life
+settles_first moment = record { old = []; new = said 66 ∷ []; trail = record { partition = 0; entry = (first_of 0).entry; at = 1 } ∷ []; moment = moment }
 
--- there is an answer without a deed, and an entry that was settled in no life
-abbrev pub never_lived : Mode → (nodes moment : ℕ) → Life
-never_lived mode nodes moment = record (quiet mode nodes moment) { came = answers.Seen ∷ []; trail = record { partition = 0; entry = (first_of 0).entry; at = 0 } ∷ [] }
+-- an entry was settled, and nothing happened
+abbrev pub never_lived : Life
+never_lived = record { old = []; new = []; trail = record { partition = 0; entry = (first_of 0).entry; at = 0 } ∷ []; moment = 0 }
 
--- it was a life, or logs were opened and nothing was settled
+-- a call went on, or logs were opened and nothing was settled
 abbrev pub WasOrOpened : Flows → (count digest : ℕ) → Life → Type 0
-WasOrOpened flows count digest life = IsLife flows count digest life.mode life.nodes (Unit {0}) life.old life.new life.done life.came life.trail ⊎ (OpensOnly flows count digest life.old life.new × (life.trail ≡ []))
+WasOrOpened flows count digest life = WentOn flows count digest life.old life.new life.trail ⊎ (OpensOnly flows count digest life.old life.new × (life.trail ≡ []))

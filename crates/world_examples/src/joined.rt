@@ -2,10 +2,9 @@
 //! functions do nothing.
 
 ghost use Rattle.std.specs.Prelude.{◌≤◌, ℕ, List, [], ◌∷◌, length};
-ghost use Rattle.cell_steps.specs.declared.mode.Mode.{Mode};
 ghost use Rattle.dura_value.specs.Dependencies.{Founded};
 ghost use Rattle.flow_syntax.specs.Syntax.{Flows};
-ghost use Rattle.life_laws.specs.Joined.{KeepsOn, BeginsOn, IsOneLife, IsSettledIn};
+ghost use Rattle.join_laws.specs.Joined.{KeepsOn, BeginsOn, IsOneLife, IsSettledIn};
 ghost use Rattle.many_logs.specs.Names.{identities_in, committed_in};
 ghost use Rattle.many_logs.specs.Stands.{AreKept};
 ghost use Rattle.part_items.specs.Examples.{digest};
@@ -35,31 +34,25 @@ pub fn where_lives_begin()
         × (BeginsOn [] byte_open → ⊥) }
 {}
 
-/// A life that ended before its first step is one life. Its moment isn't before its beginning, nor behind its end; and no answer comes
-/// without a deed, nor is an entry settled where no life began.
+/// A life in which nothing happened is one life. Its moment isn't before its beginning, nor behind its end; and no entry is settled where
+/// nothing happened.
 pub fn what_one_life_is()
-    ensures one { (flows : Flows) (count digest : ℕ) (mode : Mode) (nodes : ℕ)
-        → IsOneLife flows count digest (quiet mode nodes 0) }
-    ensures lived { (flows : Flows) (count digest : ℕ) (mode : Mode) (nodes : ℕ)
-        → (length (never_lived mode nodes 0).old ≤ 0) × (0 ≤ length (never_lived mode nodes 0).new)
-        × (IsOneLife flows count digest (never_lived mode nodes 0) → ⊥) }
-    ensures begun { (flows : Flows) (count digest : ℕ) (mode : Mode) (nodes : ℕ)
-        → WasOrOpened flows count digest (behind_byte mode nodes 0)
-        × (0 ≤ length (behind_byte mode nodes 0).new)
-        × (IsOneLife flows count digest (behind_byte mode nodes 0) → ⊥) }
-    ensures within { (flows : Flows) (count digest : ℕ) (mode : Mode) (nodes : ℕ)
-        → WasOrOpened flows count digest (quiet mode nodes 1)
-        × (length (quiet mode nodes 1).old ≤ 1)
-        × (IsOneLife flows count digest (quiet mode nodes 1) → ⊥) }
+    ensures one { (flows : Flows) (count digest : ℕ) → IsOneLife flows count digest (quiet 0) }
+    ensures lived { (flows : Flows) (count digest : ℕ) → (length never_lived.old ≤ 0)
+        × (0 ≤ length never_lived.new) × (IsOneLife flows count digest never_lived → ⊥) }
+    ensures begun { (flows : Flows) (count digest : ℕ)
+        → WasOrOpened flows count digest (behind_byte 0) × (0 ≤ length (behind_byte 0).new)
+        × (IsOneLife flows count digest (behind_byte 0) → ⊥) }
+    ensures within { (flows : Flows) (count digest : ℕ)
+        → WasOrOpened flows count digest (quiet 1) × (length (quiet 1).old ≤ 1)
+        × (IsOneLife flows count digest (quiet 1) → ⊥) }
 {}
 
 /// What a life settled by its moment is in a run that has it, and not in one that hasn't, or has another entry in its place. Before it was
 /// settled any run will do.
 pub fn what_is_settled_in_a_run()
-    ensures there { (mode : Mode) (nodes : ℕ)
-        → IsSettledIn (first_of 1 ∷ first_of 0 ∷ first_of 2 ∷ []) (settles_first mode nodes 1) }
-    ensures early { (mode : Mode) (nodes : ℕ) → IsSettledIn [] (settles_first mode nodes 0) }
-    ensures split { (mode : Mode) (nodes : ℕ) → IsSettledIn [] (settles_first mode nodes 1) → ⊥ }
-    ensures other { (mode : Mode) (nodes : ℕ)
-        → IsSettledIn (first_of 1 ∷ []) (settles_first mode nodes 1) → ⊥ }
+    ensures there { IsSettledIn (first_of 1 ∷ first_of 0 ∷ first_of 2 ∷ []) (settles_first 1) }
+    ensures early { IsSettledIn [] (settles_first 0) }
+    ensures split { IsSettledIn [] (settles_first 1) → ⊥ }
+    ensures other { IsSettledIn (first_of 1 ∷ []) (settles_first 1) → ⊥ }
 {}

@@ -1,6 +1,7 @@
 use Rattle.std.proofs.Common.{◌≡◌, ◌≤◌, ◌∙◌, inl, inr, ℕ, List, true, false, Some, refl, sym, ap, subst, arith}
 use Rattle.std.proofs.Math.Nat.{le_of_eq}
 use Rattle.cluster_run.specs.Comes.{AreUnfit, ComesTo, KeepsFiles, LeavesLogs}
+use Rattle.cluster_run.specs.Complete.{AreFit, IsSound}
 use Rattle.command_words.specs.Command.{call_in}
 use Rattle.command_words.specs.declared.words.Call.TheVariants.{Run, Show}
 use Rattle.command_words.specs.declared.words.RunOptions.{RunOptions}
@@ -14,6 +15,7 @@ use Rattle.engine_run.specs.Showing.{ShowsAs, WritesNothing}
 use Rattle.engine_run.proofs.Early.{differ}
 use Rattle.engine_run.proofs.Ending.{memory_no_site, memory_no_say, memory_no_clock}
 use Rattle.engine_run.proofs.Opens.{opening_first}
+use Rattle.engine_run.proofs.Sound.{alone_sound}
 use Rattle.engine_run.proofs.Words.{run_is_within, show_is_within, run_same, run_no_show, show_same, none_no_call, never_both}
 use Rattle.engine_run.proofs.call.run_alone.Goals as goal
 use Rattle.run_causes.specs.Causes.{status_of}
@@ -57,6 +59,8 @@ returns-then-is_alone g c =
     let is = rw c.in-Ok-Run.field-0-is at c.in-Ok-Run.ensures in
     let ran = c.run_requests.ensures in
     let end = c.run_requests.result in
+    let own = c.in-Ok-Run.options in
+    let files : ℕ → List ℕ = λ file. content_of file (g.V.Site.history c.args.site) in
     let is_run : call_in c.args.words.now ≡ Some (Run c.in-Ok-Run.options) = is in
     let alone : is_alone c.in-Ok-Run.options ≡ true = sym c.is_alone.ensures ∙ c.if-is_alone.true in
     let old = g.V.Site.history c.args.site in record {
@@ -78,6 +82,9 @@ returns-then-is_alone g c =
         writes_nothing = λ partitions asked. absurd (run_no_show (call_in c.args.words.now) c.in-Ok-Run.options partitions is asked);
       };
       faults = ran.faults;
+      complete = λ tells options asked fit none.
+          let fitting : AreFit own files = subst (λ (o : RunOptions). AreFit o files) (sym (run_same (call_in c.args.words.now) own options is asked)) fit in
+          alone_sound own files end.cause _ _ alone (ran.answers tells) ran.faults fitting none;
     }
 
 pub returns-else-is_alone : goal.returns-else-is_alone
@@ -110,6 +117,7 @@ returns-else-is_alone g c =
         writes_nothing = λ partitions asked. absurd (run_no_show (call_in c.args.words.now) own partitions is asked);
       };
       faults = ran.faults;
+      complete = λ tells options asked fit none. ran.complete tells (subst (λ (o : RunOptions). AreFit o files) (sym (run_same (call_in c.args.words.now) own options is_run asked)) fit) none;
     }
 
 pub show-cause-requires-clause-some : goal.show-cause-requires-clause-some
@@ -156,6 +164,7 @@ returns-in-Ok-Show g c =
         tape = subst (λ site. g.V.Site.say_faults c.args.site ≤ g.V.Site.say_faults site) (sym end.site) shown.say_later;
         clock = le_of_eq (ap g.C.Clock.clock_faults (sym end.clock));
       };
+      complete = λ tells options asked. absurd (run_no_show (call_in c.args.words.now) options c.in-Ok-Show.partitions asked is);
     }
 
 pub returns-in-Err-Usage : goal.returns-in-Err-Usage
@@ -189,6 +198,7 @@ returns-in-Err-Usage g c =
         tape = le_of_eq (ap g.V.Site.say_faults (sym end.site));
         clock = le_of_eq (ap g.C.Clock.clock_faults (sym end.clock));
       };
+      complete = λ tells options asked. absurd (none_no_call (call_in c.args.words.now) (Run options) is asked);
     }
 
 pub returns-in-Err-Memory : goal.returns-in-Err-Memory
@@ -229,4 +239,5 @@ returns-in-Err-Memory g c =
         tape = le_of_eq (ap g.V.Site.say_faults (sym end.site));
         clock = le_of_eq (ap g.C.Clock.clock_faults (sym end.clock));
       };
+      complete = λ tells options asked fit none. subst IsSound (sym end.cause) tt;
     }

@@ -4,8 +4,8 @@ use Rattle.dura_model.specs.Legal.{Legal}
 use Rattle.dura_model.specs.Steps.{Label}
 use Rattle.flow_syntax.specs.Syntax.{Flows}
 use Rattle.hub_store.specs.Trail.{Said}
-use Rattle.life_laws.specs.Joined.{Life, settled_then, IsSettledIn, IsAnsweredIn, AllAnsweredIn, IsPartIn, IsSaidBy}
-use Rattle.life_laws.specs.Joined.AllAnsweredIn.{nothing_said, one_more}
+use Rattle.join_laws.specs.Joined.{Life, settled_then, IsSettledIn, IsAnsweredIn, AllAnsweredIn, IsPartIn, IsSaidBy}
+use Rattle.join_laws.specs.Joined.AllAnsweredIn.{nothing_said, one_more}
 use Rattle.many_logs.specs.Placing.{Commit}
 use Rattle.many_rules.proofs.Trails.{labels_split}
 use Rattle.many_rules.specs.Leaves.{IsAnswered, AllAnswered, IsHalfSaid}

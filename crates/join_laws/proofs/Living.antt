@@ -4,21 +4,18 @@ use Rattle.std.proofs.lemmas.Bool.{cases_lt}
 use Rattle.dura_value.specs.Dependencies.{Founded}
 use Rattle.flow_syntax.specs.Syntax.{Flows}
 use Rattle.hub_store.specs.Trail.{Settled, settled_at}
-use Rattle.life_laws.proofs.Answers.{all_in, part_in}
-use Rattle.life_laws.proofs.Founding.{founded_behind}
-use Rattle.life_laws.proofs.Histories.{some_image, earlier_moment}
-use Rattle.life_laws.specs.Joined.{Life, by_then, settled_then, IsOneLife, BeginsOn, IsSettledIn, IsSaidBy, IsPartIn, AllAnsweredIn, Speaks}
+use Rattle.join_laws.proofs.Answers.{all_in, part_in}
+use Rattle.join_laws.proofs.Founding.{founded_behind}
+use Rattle.join_laws.proofs.Histories.{some_image, earlier_moment}
+use Rattle.join_laws.specs.Joined.{Life, by_then, settled_then, rules_from, WentOn, IsOneLife, BeginsOn, IsSettledIn, IsSaidBy, IsPartIn, AllAnsweredIn, Speaks}
 use Rattle.many_logs.specs.Names.{identities_in, committed_in}
 use Rattle.many_logs.specs.Placing.{Commit, frames_in_order}
 use Rattle.many_logs.specs.Stands.{AreKept}
 use Rattle.many_rules.specs.Leaves.{StandsOn}
 use Rattle.many_rules.specs.Rules.{commits_of}
 use Rattle.open_logs.specs.Moments.{IsOpening}
-use Rattle.open_logs.specs.Picks.{origin_of}
 use Rattle.site_model.proofs.Paths.{each_moment, last}
 use Rattle.site_model.specs.History.{Step, content_of, IsImage}
-use Rattle.world_lives.specs.Begins.{rules_of}
-use Rattle.world_lives.specs.Lives.{IsLife}
 
 -- four lists one behind another, however they are put together
 regroup : (a b c d : List Commit) → (a ++ b) ++ (c ++ d) ≡ (a ++ (b ++ c)) ++ d
@@ -81,10 +78,10 @@ module _ (flows : Flows) (count digest : ℕ) (start behind : List Commit) (befo
   run_is = all_behind start behind first_kept.more (settled_then life)
 
   -- from then on
-  module _ (lived : IsLife flows count digest life.mode life.nodes (Unit {0}) life.old life.new life.done life.came life.trail) (high : length lived.steps ≤ life.moment) where
+  module _ (lived : WentOn flows count digest life.old life.new life.trail) (high : length lived.origin.steps ≤ life.moment) where
     -- what the files stand for that a crash leaves
-    stands : (image : ℕ → List ℕ) → IsImage (by_then life) image → (latest : ℕ) × StandsOn (rules_of flows count lived.begun own) latest digest (origin_of count digest lived.steps lived.begun) (by_then life) (settled_at life.moment life.trail) image
-    stands image left = lived.crash tt own first_kept.kept life.moment high is.within image left
+    stands : (image : ℕ → List ℕ) → IsImage (by_then life) image → (latest : ℕ) × StandsOn (rules_from flows count own lived.begin lived.incarnations lived.requests lived.serves) latest digest lived.origin (by_then life) (settled_at life.moment life.trail) image
+    stands image left = lived.crash own first_kept.kept life.moment high is.within image left
 
     -- they keep what was settled by then
     keeps : AllBehind flows count digest start all_after (by_then life)
@@ -101,13 +98,13 @@ module _ (flows : Flows) (count digest : ℕ) (start behind : List Commit) (befo
     speaks : Speaks flows (start ++ all_after) life
     speaks =
         let some = some_image (by_then life) in
-        let rules = rules_of flows count lived.begun own in
+        let rules = rules_from flows count own lived.begin lived.incarnations lived.requests lived.serves in
         let on = (stands some.0 some.1).1 in record {
           told = on.told;
           lines = on.lines;
           part = on.part;
           answered = subst (λ (l : List Commit). AllAnsweredIn flows l on.told on.lines) run_is (all_in rules (settled_then life) on.answered);
-          spoken = on.spoken ∙ ap (λ (t : List ℕ). t ++ on.lines ++ on.part) (last (lived.opening tt own first_kept.kept)).silent;
+          spoken = on.spoken ∙ ap (λ (t : List ℕ). t ++ on.lines ++ on.part) (last (lived.opening own first_kept.kept)).silent;
           saying = elim on.saying [
             | inl whole ↦ inl whole
             | inr half ↦ inr (subst (λ (l : List Commit). IsPartIn flows l on.part) run_is (part_in rules (settled_then life) on.told (by_then life) on.part half))
@@ -127,10 +124,10 @@ module _ (flows : Flows) (count digest : ℕ) (start behind : List Commit) (befo
   -- either way
   pub life_comes_to : ComesToMore flows count digest start behind life
   life_comes_to = elim is.lived [
-    | inl lived ↦ elim (cases_lt life.moment (length lived.steps)) [
+    | inl lived ↦ elim (cases_lt life.moment (length lived.origin.steps)) [
       | inl low ↦
-          let same = earlier_moment (lived.further tt) life.moment (omega (arith, low)) in
-          unopened (subst (IsOpening flows count digest own life.old) (sym same) (each_moment (lived.opening tt own first_kept.kept) life.moment is.begun (omega (arith, low)))) (lived.nothing tt life.moment low)
+          let same = earlier_moment lived.further life.moment (omega (arith, low)) in
+          unopened (subst (IsOpening flows count digest own life.old) (sym same) (each_moment (lived.opening own first_kept.kept) life.moment is.begun (omega (arith, low)))) (lived.nothing life.moment low)
       | inr high ↦ opened lived high
     ]
     | inr early ↦ unopened (each_moment (early.0 own first_kept.kept) life.moment is.begun is.within) (ap (settled_at life.moment) early.1)

@@ -1,9 +1,9 @@
 -- Lives of many partitions one after another, each begun on what a crash left of the one before, and what holds of all of them.
-use Rattle.std.specs.Prelude.{◌≡◌, ◌⊎◌, ◌≤◌, ℕ, List, [], ◌∷◌, ◌++◌, length, Some}
+use Rattle.std.specs.Prelude.{◌≡◌, ◌⊎◌, ◌≤◌, ◌<◌, ℕ, Bool, List, [], ◌∷◌, ◌++◌, length, Some}
 use Rattle.std.specs.List.{All}
-use Rattle.cell_steps.specs.declared.mode.Mode.{Mode}
 use Rattle.client_port.specs.Lines.{line_of}
 use Rattle.dura_model.specs.Legal.{Legal, Overlap, finishes}
+use Rattle.dura_model.specs.Partition.{Partition}
 use Rattle.dura_model.specs.Steps.{Label}
 use Rattle.dura_model.specs.World.{World}
 use Rattle.dura_value.specs.Dependencies.{Founded}
@@ -11,17 +11,18 @@ use Rattle.dura_value.specs.Ids.{Id, client}
 use Rattle.dura_value.specs.Messages.{Answer}
 use Rattle.flow_syntax.specs.Syntax.{Flows}
 use Rattle.hub_store.specs.Moments.{IsPrefix}
+use Rattle.hub_store.specs.Origin.{Origin}
 use Rattle.hub_store.specs.Trail.{Settled, Said, settled_at}
 use Rattle.many_logs.specs.Labels.{labels_of_commits}
 use Rattle.many_logs.specs.Names.{identities_in, committed_in}
 use Rattle.many_logs.specs.Placing.{Commit}
 use Rattle.many_logs.specs.Stands.{FilesStand, AreKept}
-use Rattle.many_rules.specs.Rules.{commits_of}
+use Rattle.many_rules.specs.Leaves.{StandsOn}
+use Rattle.many_rules.specs.Rules.{Rules, commits_of}
 use Rattle.open_logs.specs.Moments.{OpensOnly}
+use Rattle.request_reader.specs.Line.{Request}
 use Rattle.site_model.specs.History.{Step, content_of, tape, back_to, IsImage}
-use Rattle.world_core.specs.declared.answer.Answer as comes
-use Rattle.world_lives.specs.Lives.{IsLife}
-use Rattle.world_lives.specs.declared.deed.Deed.{Deed}
+use Rattle.site_model.specs.Moments.{Always}
 
 -- ---- what files keep
 
@@ -37,17 +38,16 @@ AllKeep flows count digest run steps = (image : ℕ → List ℕ) → IsImage st
 
 -- ---- lives
 
--- One life: how it was played and on how many nodes, what had happened when it began and what at its end, what was done, what that came to
--- and what was settled; and the moment of it at which a crash came, or the last one.
+-- One life: what had happened when it began and what at its end, and what was settled in it; and the moment of it at which a crash came,
+-- or the last one.
 pub record Life : Type 0 where
-  pub mode : Mode
-  pub nodes : ℕ
   pub old : List Step
   pub new : List Step
-  pub done : List Deed
-  pub came : List comes.Answer
   pub trail : List Settled
   pub moment : ℕ
+
+abbrev pub life_at : (old new : List Step) → List Settled → (moment : ℕ) → Life
+life_at old new trail moment = record { old = old; new = new; trail = trail; moment = moment }
 
 -- what had happened by then
 abbrev pub by_then : Life → List Step
@@ -57,10 +57,28 @@ by_then life = back_to life.moment life.new
 abbrev pub settled_then : Life → List Commit
 settled_then life = commits_of (settled_at life.moment life.trail)
 
--- A life of these flows, where the site tells, or none that began: logs were opened at most, and nothing was settled. The moment is one
--- of it.
+-- Once logs are opened a call goes by such rules, which begin with the entries that were kept.
+abbrev pub rules_from : Flows → (count : ℕ) → List Commit → (begin : ℕ → Partition) → (incarnations : ℕ → ℕ) → List Request → (serves : Bool) → Rules
+rules_from flows count kept begin incarnations requests serves = record { flows = flows; count = count; recovered = kept; begin = begin; incarnations = incarnations; requests = requests; serves = serves }
+
+-- A call opened the logs and went on. As long as it opened them a crash left what it could have left before, or files that keep the same,
+-- and nothing was settled; from then on, up to the end, files that stand for a run that goes on by its rules from what the files kept, in
+-- whatever order that was accepted.
+pub record WentOn (flows : Flows) (count digest : ℕ) (old new : List Step) (trail : List Settled) : Type 0 where
+  pub origin : Origin
+  pub begin : ℕ → Partition
+  pub incarnations : ℕ → ℕ
+  pub requests : List Request
+  pub serves : Bool
+  pub opening : OpensOnly flows count digest old origin.steps
+  pub further : Always (λ moment. Unit {0}) origin.steps new
+  pub nothing : (moment : ℕ) → moment < length origin.steps → settled_at moment trail ≡ []
+  pub crash : (kept : List Commit) → AreKept flows count digest (λ file. content_of file old) kept → (moment : ℕ) → length origin.steps ≤ moment → moment ≤ length new
+      → (files : ℕ → List ℕ) → IsImage (back_to moment new) files → (latest : ℕ) × StandsOn (rules_from flows count kept begin incarnations requests serves) latest digest origin (back_to moment new) (settled_at moment trail) files
+
+-- A call went on, or it opened logs at most, and nothing was settled. The moment is one of it.
 pub record IsOneLife (flows : Flows) (count digest : ℕ) (life : Life) : Type 0 where
-  pub lived : IsLife flows count digest life.mode life.nodes (Unit {0}) life.old life.new life.done life.came life.trail ⊎ (OpensOnly flows count digest life.old life.new × (life.trail ≡ []))
+  pub lived : WentOn flows count digest life.old life.new life.trail ⊎ (OpensOnly flows count digest life.old life.new × (life.trail ≡ []))
   pub begun : length life.old ≤ life.moment
   pub within : life.moment ≤ length life.new
 

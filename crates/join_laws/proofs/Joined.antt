@@ -5,10 +5,10 @@ use Rattle.std.specs.List.{All}
 use Rattle.dura_model.proofs.Outcomes.{never_twice}
 use Rattle.dura_model.specs.Steps.{Label}
 use Rattle.flow_syntax.specs.Syntax.{Flows}
-use Rattle.life_laws.proofs.Answers.{said_still, settled_still}
-use Rattle.life_laws.proofs.Living.{AllBehind, life_comes_to}
-use Rattle.life_laws.specs.Joined.{AllKeep, Life, LivesOn, IsOrderly, IsSettledIn, IsSaidBy, AreJoined}
-use Rattle.life_laws.specs.Joined.LivesOn.{no_life, one_more}
+use Rattle.join_laws.proofs.Answers.{said_still, settled_still}
+use Rattle.join_laws.proofs.Living.{AllBehind, life_comes_to}
+use Rattle.join_laws.specs.Joined.{AllKeep, Life, LivesOn, IsOrderly, IsSettledIn, IsSaidBy, AreJoined}
+use Rattle.join_laws.specs.Joined.LivesOn.{no_life, one_more}
 use Rattle.many_logs.proofs.OrdersStand.{orders_stand}
 use Rattle.many_logs.specs.Labels.{labels_of_commits}
 use Rattle.many_logs.specs.Placing.{Commit}

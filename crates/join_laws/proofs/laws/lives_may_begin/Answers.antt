@@ -1,5 +1,5 @@
-use Rattle.life_laws.proofs.Starting.{just_kept, nothing_kept}
-use Rattle.life_laws.proofs.laws.lives_may_begin.Goals as goal
+use Rattle.join_laws.proofs.Starting.{just_kept, nothing_kept}
+use Rattle.join_laws.proofs.laws.lives_may_begin.Goals as goal
 
 pub returns-clause-kept : goal.returns-clause-kept
 returns-clause-kept c = just_kept

@@ -1,0 +1,6 @@
+pub mod Answers
+pub mod Founding
+pub mod Histories
+pub mod Joined
+pub mod Living
+pub mod Starting
