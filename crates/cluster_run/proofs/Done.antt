@@ -25,6 +25,7 @@ use Rattle.engine_rounds.specs.declared.serving.Came.TheVariants as cames
 use Rattle.flow_syntax.specs.Syntax.{Flows}
 use Rattle.hub_store.specs.Moments.{SaidSoFar}
 use Rattle.hub_store.specs.Trail.{Settled, Said, settled_at}
+use Rattle.join_laws.proofs.Histories.{some_image}
 use Rattle.many_logs.specs.Labels.{AllGiven}
 use Rattle.many_logs.specs.Placing.{Commit, AllBelow, frames_in_order}
 use Rattle.many_logs.specs.Stands.{AreKept}
@@ -44,19 +45,8 @@ use Rattle.round_steps.specs.Serving.{of_client, HasSaid}
 use Rattle.run_causes.specs.declared.cause.Cause.{Cause}
 use Rattle.run_causes.specs.declared.cause.Cause.TheVariants.{Done, Usage, BadFlows, BadRequests, Clash, BadPlan, TooLong, Waiting, Long, SiteFault, SayFault, ClockFault, Damaged, Illegal, Unclosed, OtherShape, OtherFlows, Memory, Full, Spent}
 use Rattle.run_rules.specs.Rules.{count_told, request_at}
-use Rattle.site_model.proofs.Images.{torn_as_it_was}
 use Rattle.site_model.proofs.Paths.{no_shorter}
-use Rattle.site_model.specs.History.{Change, wrote, synced, reads, Step, back_to, changes_of, content_of, Leaves, IsImage}
-
--- ---- what a crash leaves is something
-
-some_left : (changes : List Change) → (image : List ℕ) × Leaves changes image
-some_left [] = ([], refl)
-some_left (wrote at size bytes ∷ changes) = let before = some_left changes in (before.0, (before.0, before.1, torn_as_it_was at size before.0))
-some_left (synced ∷ changes) = (reads changes, refl)
-
-some_image : (steps : List Step) → (image : ℕ → List ℕ) × IsImage steps image
-some_image steps = (λ file. (some_left (changes_of file steps)).0, record { each = λ file. (some_left (changes_of file steps)).1 })
+use Rattle.site_model.specs.History.{Step, back_to, content_of, IsImage}
 
 -- ---- what comes next of a client
 

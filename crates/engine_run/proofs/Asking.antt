@@ -11,9 +11,9 @@ use Rattle.dura_model.specs.World.{World}
 use Rattle.dura_value.specs.Ids.{Id, client, id_eq}
 use Rattle.dura_value.specs.Items.{Entry}
 use Rattle.dura_value.proofs.Ids.{same_bytes}
-use Rattle.engine_run.specs.Asked.{IsRequest}
-use Rattle.engine_run.specs.Served.{has_answer}
-use Rattle.engine_run.proofs.FileAsked.{says_whose}
+use Rattle.rest_laws.specs.Requests.{IsRequest}
+use Rattle.rest_laws.specs.Requests.{has_answer}
+use Rattle.engine_run.proofs.DueAsked.{says_whose}
 use Rattle.hub_store.specs.Moments.{SaidSoFar}
 use Rattle.hub_store.specs.Moments.SaidSoFar.{silent, settles, says}
 use Rattle.hub_store.specs.Trail.{Settled, Said, of_part, settling}

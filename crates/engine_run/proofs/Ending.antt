@@ -12,9 +12,9 @@ use Rattle.engine_run.specs.Ends.{WouldFill}
 use Rattle.client_order.specs.Unsaid.{AreAllSaid, IsFirstUnsaid}
 use Rattle.cluster_run.specs.Causes.{IsRestCause}
 use Rattle.engine_run.specs.Rounds.{IsAtRest, RoundsEnd, IsLateCause, IsWanting, cause_of_stop}
-use Rattle.engine_run.specs.Asked.{IsRequest}
+use Rattle.rest_laws.specs.Requests.{IsRequest}
 use Rattle.engine_run.specs.Prepared.{IsEarlyCause}
-use Rattle.engine_run.proofs.FileAsked.{due_taken}
+use Rattle.engine_run.proofs.DueAsked.{due_taken}
 use Rattle.engine_run.proofs.Quieted.{quiet_behind}
 use Rattle.hub_store.specs.Moments.{StandsWith}
 use Rattle.hub_store.specs.Origin.{Origin}

@@ -1,11 +1,10 @@
 pub mod Asked
 pub mod Asking
+pub mod DueAsked
 pub mod Early
 pub mod Ending
-pub mod FileAsked
 pub mod First
 pub mod Going
-pub mod LineAsked
 pub mod Lives
 pub mod OnlyOne
 pub mod Opens

@@ -1,5 +1,5 @@
 -- Calls one after another come to one run.
-use Rattle.std.proofs.Common.{◌≡◌, ◌≤◌, ◌-◌, ◌⊎◌, inl, inr, ℕ, suc, List, [], ◌∷◌, ◌++◌, length, drop, Some, refl, sym, ◌∙◌, ap, subst, arith, append_assoc}
+use Rattle.std.proofs.Common.{◌≡◌, ◌≤◌, ◌⊎◌, inl, inr, ℕ, List, [], ◌∷◌, ◌++◌, length, Some, refl, sym, ◌∙◌, ap, subst, arith, append_assoc}
 use Rattle.std.proofs.lemmas.Bool.{cases_lt}
 use Rattle.std.proofs.lemmas.List.{append-nil}
 use Rattle.std.proofs.lemmas.List.Elements.{All-push}
@@ -9,10 +9,12 @@ use Rattle.dura_model.proofs.Outcomes.{never_twice}
 use Rattle.dura_value.specs.Items.{Entry}
 use Rattle.engine_run.specs.Headline.{IsOrderly, RunsOn}
 use Rattle.engine_run.specs.Job.{FilesKeep, AreGivenIn}
-use Rattle.engine_run.specs.Lives.{asking_nothing, KeepsOn, AllKeep, Life, by_then, settled_then, IsLife, BeginsOn, Lives, no_life, one_more, IsSaidBy, IsSettledIn, AreJoined}
+use Rattle.engine_run.specs.Lives.{asking_nothing, KeepsOn, AllKeep, Life, by_then, settled_then, IsLife, Lives, no_life, one_more, IsSaidBy, IsSettledIn, AreJoined}
 use Rattle.engine_run.specs.Opened.{IsOpening}
 use Rattle.engine_run.specs.Picks.{rules_with}
 use Rattle.flow_syntax.specs.Syntax.{Flows}
+use Rattle.join_laws.proofs.Histories.{some_image, earlier_moment}
+use Rattle.join_laws.specs.Joined.{BeginsOn}
 use Rattle.hub_store.specs.Origin.{Origin}
 use Rattle.hub_store.specs.Trail.{Settled, Said, of_part, settled_at}
 use Rattle.part_items.specs.Logs.{logs_in, entries_in, alone_with}
@@ -23,30 +25,9 @@ use Rattle.run_laws.proofs.Ordered.{never_overlaps}
 use Rattle.run_laws.specs.Leaves.{IsAnswered, AllAnswered, IsHalfSaid, StandsOn}
 use Rattle.run_laws.specs.Leaves.AllAnswered.{nothing_said, one_more as one_line}
 use Rattle.run_rules.specs.Rules.{Rules}
-use Rattle.site_model.specs.History.{Change, wrote, synced, reads, Step, changes_of, content_of, back_to, Leaves, IsImage}
-use Rattle.site_model.specs.Moments.{Always, begins, goes_on}
-use Rattle.site_model.proofs.Paths.{each_moment, last, no_shorter}
-use Rattle.site_model.proofs.Images.{torn_as_it_was}
+use Rattle.site_model.specs.History.{Step, content_of, IsImage}
+use Rattle.site_model.proofs.Paths.{each_moment, last}
 use Rattle.run_rules.proofs.OneOfMany.{stands_alone}
-
--- ---- images
-
--- a crash always leaves something
-some_left : (changes : List Change) → (image : List ℕ) × Leaves changes image
-some_left [] = ([], refl)
-some_left (wrote at size bytes ∷ changes) = let before = some_left changes in (before.0, (before.0, before.1, torn_as_it_was at size before.0))
-some_left (synced ∷ changes) = (reads changes, refl)
-
-some_image : (steps : List Step) → (image : ℕ → List ℕ) × IsImage steps image
-some_image steps = (λ file. (some_left (changes_of file steps)).0, record { each = λ file. (some_left (changes_of file steps)).1 })
-
--- an earlier moment of a history that goes on is one of the history before
-earlier_moment : {P : List Step → Type 0} {old new : List Step} → Always P old new → (moment : ℕ) → moment ≤ length old → back_to moment new ≡ back_to moment old
-earlier_moment (begins here) moment low = refl
-earlier_moment {P} {old} (goes_on {new} {step} path here) moment low =
-    let longer = no_shorter path in
-    let more : suc (length new) - moment ≡ suc (length new - moment) = omega (arith, longer, low) in
-    ap (λ (n : ℕ). drop n (step ∷ new)) more ∙ earlier_moment path moment low
 
 -- ---- what a crash leaves of one call
 

@@ -15,13 +15,15 @@ use Rattle.dura_model.specs.World.{World}
 use Rattle.dura_value.specs.Ids.{Id, client}
 use Rattle.dura_value.specs.Messages.{Message}
 use Rattle.dura_value.proofs.Ids.{same_bytes, bytes_self}
-use Rattle.engine_run.specs.Asked.{IsRequest, IsTaken}
+use Rattle.engine_run.specs.Asked.{IsTaken}
+use Rattle.rest_laws.specs.Requests.{IsRequest, has_answer, first_open}
 use Rattle.engine_run.specs.Ends.{next_untold, AreAllTold, IsFirstUntold, IsToldOut, RunEndsAs}
 use Rattle.client_order.specs.Unsaid.{AreAllSaid, IsFirstUnsaid}
 use Rattle.engine_run.specs.Rounds.{IsAtRest, IsUnfinished, RoundsEnd}
-use Rattle.engine_run.specs.Served.{has_answer, IsServed, first_open, IsFirstOpen, Awaits, IsLeftAt, HasServed}
+use Rattle.end_laws.specs.Served.{AllServed, IsFirstOpen, Awaits}
+use Rattle.engine_run.specs.Served.{IsLeftAt, HasServed}
 use Rattle.engine_run.proofs.Asking.{told_answered, get_front, get_here, get_within, front_all, asks_in_vain}
-use Rattle.engine_run.proofs.FileAsked.{says_whose}
+use Rattle.engine_run.proofs.DueAsked.{says_whose}
 use Rattle.engine_run.proofs.Stirred.{stirs}
 use Rattle.hub_store.specs.Moments.{SaidSoFar}
 use Rattle.hub_store.specs.Origin.{Origin}
@@ -183,7 +185,7 @@ module _ (rules : Rules) (latest : ℕ) (trail : List Settled) (told : List Said
       due_is name queues ∙ ap (option_and_then first_due) found ∙ ap (λ (l : List Request). slice_get l q.said) each.0 ∙ ap (slice_get (requests_of name rules.requests)) each.1
 
   -- a client's first request without an answer is its next one
-  open_is_due : (name : List ℕ) (q : Queue) → of_client name queues ≡ Some q → next_answer state queues name ≡ None → first_open rules world name ≡ due_of name queues
+  open_is_due : (name : List ℕ) (q : Queue) → of_client name queues ≡ Some q → next_answer state queues name ≡ None → first_open world rules.requests name ≡ due_of name queues
   open_is_due name q found none =
       let due = due_at name q found in
       found_at (λ r. not (has_answer world name r)) (requests_of name rules.requests) (count_told (pairs_of told) name)
@@ -237,7 +239,7 @@ module _ (rules : Rules) (latest : ℕ) (trail : List Settled) (told : List Said
       let whose = says_whose r asks in
       ap (λ (i : Id). is_some (state.taken i (number_in r.message.body))) whose.0 ∙ ap (λ (n : ℕ). is_some (state.taken (client r.client) n)) whose.1 ∙ rightly (client r.client) r.number answered
 
-  pub served : AreAllSaid queues (clients_of rules.requests) → All IsRequest rules.requests → AnswersTaken state → Quiet rules.flows [] world → IsServed rules world
+  pub served : AreAllSaid queues (clients_of rules.requests) → All IsRequest rules.requests → AnswersTaken state → Quiet rules.flows [] world → AllServed rules.flows rules.requests world
   served all asked rightly quiet = record {
     quiet = record {
       delivered = quiet.delivered;
@@ -264,7 +266,7 @@ module _ (rules : Rules) (latest : ℕ) (trail : List Settled) (told : List Said
         recursion_from_All (λ (n : List ℕ). next_answer state queues n ≡ None) (map (λ (x : Queue). x.client) queues) (subst (All (λ (n : List ℕ). next_answer state queues n ≡ None)) (sym said.clients) none) in
         of_queue (λ (n : List ℕ). next_answer state queues n ≡ None) queues name q names found
 
-    first_waits : (name : List ℕ) (number : ℕ) → IsFirstUnsaid queues (clients_of rules.requests) name number → IsFirstOpen rules world name number
+    first_waits : (name : List ℕ) (number : ℕ) → IsFirstUnsaid queues (clients_of rules.requests) name number → IsFirstOpen rules.requests world name number
     first_waits name number unsaid =
         let found = queue_found name queues unsaid.unsaid.request unsaid.unsaid.due in
         record {
@@ -330,7 +332,7 @@ module _ (rules : Rules) (latest : ℕ) (trail : List Settled) (told : List Said
           no_more was = ap (λ (b : Bool). not b && may_ask world r.message.from (map (λ (x : Request). x.message) front)) was
 
     pub waits : AnswersTaken state → All IsRequest rules.requests → All (IsTaken state queues) (clients_of rules.requests) → Quiet rules.flows [] world → (name : List ℕ) (number : ℕ) → IsFirstUnsaid queues (clients_of rules.requests) name number
-        → Awaits rules world name number
+        → Awaits rules.flows rules.requests world name number
     waits rightly asked taken quiet name number unsaid = record {
       quiet = record {
         delivered = quiet.delivered;

@@ -1,7 +1,7 @@
 -- A program that starts on what a crash left begins on it.
 use Rattle.std.proofs.Common.{◌≡◌, ◌≤◌, inl, inr, ℕ, zero, suc, List, [], ◌∷◌, length, sym, ◌∙◌, subst}
 use Rattle.std.proofs.lemmas.Bool.{cases_eq, cases_lt}
-use Rattle.engine_run.specs.Lives.{BeginsOn}
+use Rattle.join_laws.specs.Joined.{BeginsOn}
 use Rattle.site_calls.specs.Events.{held_below, start_of}
 use Rattle.site_calls.proofs.FirstSteps.{held, held_none, changes_one_more}
 use Rattle.site_model.specs.History.{on, wrote, synced, Step, changes_of, content_of, Leaves, IsImage, IsKept}

@@ -19,9 +19,9 @@ use Rattle.dura_value.specs.Items.{Item, took, got, ran, ended, fired, trim}
 use Rattle.dura_value.specs.Messages.{Message}
 use Rattle.dura_value.specs.declared.outcome.Outcome.{Outcome}
 use Rattle.dura_value.proofs.Ids.{same_bytes}
-use Rattle.engine_run.specs.Asked.{IsRequest}
+use Rattle.rest_laws.specs.Requests.{IsRequest}
 use Rattle.engine_run.proofs.Asking.{told_answered, get_front, front_all, asks_on}
-use Rattle.engine_run.proofs.FileAsked.{says_whose}
+use Rattle.engine_run.proofs.DueAsked.{says_whose}
 use Rattle.flow_syntax.specs.Syntax.{Flows}
 use Rattle.hub_store.specs.Moments.{SaidSoFar}
 use Rattle.hub_store.specs.Trail.{Settled, Said, of_part}

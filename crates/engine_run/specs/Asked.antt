@@ -1,14 +1,9 @@
--- What a client's request is in the failure-free machine.
+-- What is due of a client was taken.
 use Rattle.std.specs.Prelude.{◌≡◌, ℕ, List, true, is_some, Some}
 use Rattle.client_port.specs.Ports.{Queue, due_of}
 use Rattle.dura_model.specs.Partition.{Partition}
-use Rattle.dura_model.specs.Steps.{is_request}
 use Rattle.dura_value.specs.Ids.{client}
 use Rattle.request_reader.specs.Line.{Request}
-
--- its message is one that its client sends under its number
-abbrev pub IsRequest : Request → Type 0
-IsRequest r = is_request (client r.client) r.number r.message ≡ true
 
 -- what is due of a client was taken
 abbrev pub IsTaken : Partition → List Queue → (name : List ℕ) → Type 0

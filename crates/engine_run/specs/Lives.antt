@@ -9,6 +9,7 @@ use Rattle.cluster_run.specs.Asked.{Job}
 use Rattle.engine_run.specs.Job.{FilesKeep, AreGivenIn}
 use Rattle.engine_run.specs.Picks.{rules_with}
 use Rattle.flow_syntax.specs.Syntax.{Flows}
+use Rattle.join_laws.specs.Joined.{BeginsOn}
 use Rattle.hub_store.specs.Origin.{Origin}
 use Rattle.hub_store.specs.Trail.{Settled, Said, of_part, settled_at}
 use Rattle.dura_model.specs.Entries.{next_incarnation, labels_in}
@@ -63,11 +64,6 @@ pub record IsLife (flows : Flows) (digest : ℕ) (life : Life) : Type 0 where
   pub promised : Headline life.job (λ file. content_of file life.old) life.old life.new life.trail life.terms life.cause
   pub begun : length life.old ≤ life.moment
   pub within : life.moment ≤ length life.new
-
--- What the files hold now is a crash image of what had happened before, and so is all that a crash may leave of them now.
-pub record BeginsOn (before now : List Step) : Type 0 where
-  pub reads : IsImage before (λ file. content_of file now)
-  pub leaves : (image : ℕ → List ℕ) → IsImage now image → IsImage before image
 
 -- Lives one after another, from this history on, and what had happened by the end of the last. Each began on what a crash left of the
 -- one before.

@@ -10,7 +10,8 @@ use Rattle.dura_model.specs.Entries.{placed, shown_by}
 use Rattle.dura_model.specs.Legal.{Quiet}
 use Rattle.dura_model.specs.Partition.{Partition, enter}
 use Rattle.dura_value.specs.Items.{Entry}
-use Rattle.engine_run.specs.Asked.{IsRequest, IsTaken}
+use Rattle.engine_run.specs.Asked.{IsTaken}
+use Rattle.rest_laws.specs.Requests.{IsRequest}
 use Rattle.engine_run.specs.Ends.{Terms, GoesInTime, WouldFill, IsPositionSpent, SaysWhole}
 use Rattle.hub_store.specs.Moments.{StandsWith, AtEveryMoment}
 use Rattle.hub_store.specs.Origin.{Origin}

@@ -3,10 +3,11 @@
 ghost use Rattle.std.specs.Prelude.{◌≡◌, ◌≤◌, ℕ, List, []};
 ghost use Rattle.dura_value.specs.Items.{Entry};
 ghost use Rattle.engine_run.specs.Causes.{AreRefused, IsReady};
-ghost use Rattle.engine_run.specs.Lives.{AllKeep, KeepsOn, BeginsOn, Life, Lives, AreJoined};
+ghost use Rattle.engine_run.specs.Lives.{AllKeep, KeepsOn, Life, Lives, AreJoined};
 ghost use Rattle.flow_syntax.specs.Syntax.{Flows};
 ghost use Rattle.hub_store.specs.Origin.{Origin};
 ghost use Rattle.hub_store.specs.Trail.{Settled};
+ghost use Rattle.join_laws.specs.Joined.{BeginsOn};
 ghost use Rattle.run_laws.specs.Leaves.{StandsOn};
 ghost use Rattle.run_rules.specs.Rules.{Rules};
 ghost use Rattle.site_calls.specs.Events.{file_numbers, start_of};

@@ -4,7 +4,7 @@ ghost use Rattle.std.specs.Prelude.{◌≡◌, ◌≢◌, ◌⊎◌, ◌<◌, �
 ghost use Rattle.std.specs.List.{All};
 ghost use Rattle.client_port.specs.Clients.{clients_of};
 ghost use Rattle.client_port.specs.Ports.{queues_of};
-ghost use Rattle.engine_run.specs.Asked.{IsRequest};
+ghost use Rattle.rest_laws.specs.Requests.{IsRequest};
 ghost use Rattle.engine_run.specs.Ends.{terms_of};
 ghost use Rattle.client_order.specs.Unsaid.{AreAllSaid, IsFirstUnsaid};
 ghost use Rattle.cluster_run.specs.Causes.{IsRestCause};

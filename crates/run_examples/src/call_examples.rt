@@ -4,12 +4,14 @@ ghost use Rattle.std.specs.Prelude.{◌≡◌, ℕ, List, [], ◌∷◌, codes, 
 ghost use Rattle.dura_model.specs.Partition.{Partition, fresh};
 ghost use Rattle.dura_model.specs.World.{empty};
 ghost use Rattle.dura_value.specs.Items.{Entry};
-ghost use Rattle.engine_run.specs.Asked.{IsRequest, IsTaken};
+ghost use Rattle.engine_run.specs.Asked.{IsTaken};
+ghost use Rattle.rest_laws.specs.Requests.{IsRequest};
 ghost use Rattle.engine_run.specs.Causes.{AsksFor, CauseHolds, Untouched};
 ghost use Rattle.engine_run.specs.Ends.{AreAllTold, IsFirstUntold, SaysWhole, RunEndsAs};
 ghost use Rattle.run_examples.specs.Calls.{by_steps, terms_by, nothing_asked, one_asked, no_flows, starting, waiting, second, third, unsaid, all_said, settled_once, ended_twice, rules_for, asking_too, held_back, out_of_turn, answered};
 ghost use Rattle.engine_run.specs.Headline.{IsOrderly, EndsEarly, RunsOn};
-ghost use Rattle.engine_run.specs.Served.{IsServed, IsFirstOpen, Awaits, HasServed};
+ghost use Rattle.end_laws.specs.Served.{AllServed, IsFirstOpen, Awaits};
+ghost use Rattle.engine_run.specs.Served.{HasServed};
 ghost use Rattle.engine_run.specs.Job.{FilesKeep};
 ghost use Rattle.engine_run.specs.Kept.{IsClash, NoClash};
 ghost use Rattle.engine_run.specs.Opened.{IsOpening};
@@ -157,15 +159,15 @@ pub fn lines_whole()
 /// Where nobody asks all is served, and where who asked was answered, unless an activity is pending; else the first request without an
 /// answer is waited for, under its number, unless another one comes before it.
 pub fn requests_served()
-    ensures nobody { IsServed (rules_for []) empty }
-    ensures answered { IsServed (rules_for (starting ∷ [])) answered }
-    ensures not_answered { IsServed (rules_for (starting ∷ [])) empty → ⊥ }
-    ensures pending { IsServed (rules_for []) (shown_by no_flows adding) → ⊥ }
-    ensures waits { IsFirstOpen (rules_for (starting ∷ [])) empty (codes "a") 1 }
-    ensures other_number { IsFirstOpen (rules_for (starting ∷ [])) empty (codes "a") 2 → ⊥ }
-    ensures another_before { IsFirstOpen (rules_for (starting ∷ asking_too ∷ [])) empty (codes "b")
+    ensures nobody { AllServed no_flows [] empty }
+    ensures answered { AllServed no_flows (starting ∷ []) answered }
+    ensures not_answered { AllServed no_flows (starting ∷ []) empty → ⊥ }
+    ensures pending { AllServed no_flows [] (shown_by no_flows adding) → ⊥ }
+    ensures waits { IsFirstOpen (starting ∷ []) empty (codes "a") 1 }
+    ensures other_number { IsFirstOpen (starting ∷ []) empty (codes "a") 2 → ⊥ }
+    ensures another_before { IsFirstOpen (starting ∷ asking_too ∷ []) empty (codes "b")
         1 → ⊥ }
-    ensures none_open { (number : ℕ) → IsFirstOpen (rules_for (starting ∷ [])) answered (codes "a")
+    ensures none_open { (number : ℕ) → IsFirstOpen (starting ∷ []) answered (codes "a")
         number → ⊥ }
     ensures done { HasServed (rules_for []) [] causes.Done }
     ensures not_done { HasServed (rules_for (starting ∷ [])) [] causes.Done → ⊥ }
@@ -174,12 +176,12 @@ pub fn requests_served()
 /// A run waits for an answer only where nothing is left to do: where the client's next request is due it doesn't wait. That one is due
 /// once each in front of it was answered, and not yet once the last of them was.
 pub fn runs_wait()
-    ensures unanswered { Awaits (rules_for (starting ∷ [])) (shown_by no_flows held_back)
+    ensures unanswered { Awaits no_flows (starting ∷ []) (shown_by no_flows held_back)
         (codes "a") 1 }
-    ensures due { (number : ℕ) → Awaits (rules_for (starting ∷ [])) empty (codes "a") number → ⊥ }
-    ensures out_of_turn { Awaits (rules_for (starting ∷ second ∷ third ∷ [])) out_of_turn
+    ensures due { (number : ℕ) → Awaits no_flows (starting ∷ []) empty (codes "a") number → ⊥ }
+    ensures out_of_turn { Awaits no_flows (starting ∷ second ∷ third ∷ []) out_of_turn
         (codes "a") 1 }
-    ensures in_turn { (number : ℕ) → Awaits (rules_for (starting ∷ third ∷ [])) answered (codes "a")
+    ensures in_turn { (number : ℕ) → Awaits no_flows (starting ∷ third ∷ []) answered (codes "a")
         number → ⊥ }
     ensures waiting { HasServed (record (rules_for (starting ∷ [])) { begin = held_back }) []
         (causes.Waiting (codes "a") 1) }

@@ -1,7 +1,8 @@
 //! Examples of calls one after another.
 
 ghost use Rattle.std.specs.Prelude.{[], ◌∷◌};
-ghost use Rattle.engine_run.specs.Lives.{BeginsOn, IsLife, Lives, AreJoined};
+ghost use Rattle.engine_run.specs.Lives.{IsLife, Lives, AreJoined};
+ghost use Rattle.join_laws.specs.Joined.{BeginsOn};
 ghost use Rattle.hub_store.specs.Examples.{log_written};
 ghost use Rattle.part_items.specs.Examples.{digest, two_files, empty_log, taking};
 ghost use Rattle.run_examples.specs.Calls.{no_flows};

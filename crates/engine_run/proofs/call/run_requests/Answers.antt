@@ -14,7 +14,7 @@ use Rattle.engine_run.specs.Opened.{IsOpening}
 use Rattle.engine_run.specs.Prepared.{job_of, IsEarlyCause}
 use Rattle.engine_run.proofs.Asked.{same_job, same_entries, same_state}
 use Rattle.engine_run.proofs.Early.{one_first}
-use Rattle.engine_run.proofs.FileAsked.{file_asked}
+use Rattle.end_laws.proofs.FileAsked.{file_asked}
 use Rattle.engine_run.proofs.Going.{runs_on}
 use Rattle.engine_run.proofs.Picked.{picked, past_is}
 use Rattle.engine_run.proofs.Refusing.{late_answers, late_untouched, late_no_refusal, ready, not_refused}

@@ -5,7 +5,8 @@ use Rattle.dura_model.specs.Partition.{fresh}
 use Rattle.dura_model.specs.World.{World, empty}
 use Rattle.dura_value.specs.Messages.{Message}
 use Rattle.client_order.specs.Order.{no_later}
-use Rattle.engine_run.specs.Served.{has_answer, first_open, IsServed, IsFirstOpen}
+use Rattle.end_laws.specs.Served.{AllServed, IsFirstOpen}
+use Rattle.rest_laws.specs.Requests.{has_answer, first_open}
 use Rattle.part_items.specs.Examples.{request}
 use Rattle.dura_model.specs.Entries.{shown_by}
 use Rattle.request_reader.specs.Line.{Request}
@@ -15,7 +16,7 @@ use Rattle.run_examples.proofs.call_examples.requests_served.Goals as goal
 use Rattle.run_examples.proofs.Quiescent.{nobody_asks}
 
 -- nothing is left where nobody asks and nothing happened
-nothing_left : (w : World) → Quiet no_flows [] w → IsServed (rules_for []) w
+nothing_left : (w : World) → Quiet no_flows [] w → AllServed no_flows [] w
 nothing_left w quiet = record { quiet = quiet; answered = All-from_recursion (λ (r : Request). has_answer w r.client r ≡ true) [] tt }
 
 quiet_at_first : Quiet no_flows [] empty
@@ -32,12 +33,12 @@ not_due [] r behind is = let same : request ≡ r = cc is in subst (λ (m : Mess
 not_due (first ∷ before) r behind is = let rest : [] ≡ before ++ r ∷ behind = cc is in absurd (nobody_asks before r behind rest)
 
 -- the one request is open
-waits_for_one : IsFirstOpen (rules_for (starting ∷ [])) empty (codes "a") 1
+waits_for_one : IsFirstOpen (starting ∷ []) empty (codes "a") 1
 waits_for_one = record {
   request = starting;
   unanswered = refl;
   number_is = refl;
-  first = All-from_recursion (λ other. (r : Request) → first_open (rules_for (starting ∷ [])) empty other ≡ Some r → no_later (codes "a", 1) (other, r.number) ≡ true) (codes "a" ∷ [])
+  first = All-from_recursion (λ other. (r : Request) → first_open empty (starting ∷ []) other ≡ Some r → no_later (codes "a", 1) (other, r.number) ≡ true) (codes "a" ∷ [])
       ((λ r is. let same : starting ≡ r = cc is in ap (λ (x : Request). no_later (codes "a", 1) (codes "a", x.number)) (sym same)), tt);
 }
 

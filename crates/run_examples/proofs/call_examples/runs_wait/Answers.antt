@@ -5,7 +5,8 @@ use Rattle.dura_model.specs.Partition.{Partition, fresh}
 use Rattle.dura_model.specs.World.{World}
 use Rattle.dura_value.specs.Messages.{Message}
 use Rattle.client_order.specs.Order.{no_later}
-use Rattle.engine_run.specs.Served.{first_open, IsFirstOpen}
+use Rattle.end_laws.specs.Served.{IsFirstOpen}
+use Rattle.rest_laws.specs.Requests.{first_open}
 use Rattle.part_items.specs.Examples.{request}
 use Rattle.dura_model.specs.Entries.{shown_by}
 use Rattle.request_reader.specs.Line.{Request}
@@ -26,18 +27,18 @@ quiet_held : Quiet no_flows (request ∷ []) held
 quiet_held = record { delivered = λ from to stamp. refl; finished = λ id task. refl; fired = λ id task. refl; asked = taken_once }
 
 -- client a's request 1 is open, and no other client asks
-first_of : (requests : List Request) (w : World) → first_open (rules_for requests) w (codes "a") ≡ Some starting
-    → (other : List ℕ) → other ≡ codes "a" → (r : Request) → first_open (rules_for requests) w other ≡ Some r → no_later (codes "a", 1) (other, r.number) ≡ true
+first_of : (requests : List Request) (w : World) → first_open w requests (codes "a") ≡ Some starting
+    → (other : List ℕ) → other ≡ codes "a" → (r : Request) → first_open w requests other ≡ Some r → no_later (codes "a", 1) (other, r.number) ≡ true
 first_of requests w is other mine r open_there =
-    let same : starting ≡ r = (let both : Some starting ≡ Some r = sym is ∙ ap (first_open (rules_for requests) w) (sym mine) ∙ open_there in cc both) in
+    let same : starting ≡ r = (let both : Some starting ≡ Some r = sym is ∙ ap (first_open w requests) (sym mine) ∙ open_there in cc both) in
     ap (λ (n : List ℕ). no_later (codes "a", 1) (n, r.number)) mine ∙ ap (λ (x : Request). no_later (codes "a", 1) (codes "a", x.number)) (sym same)
 
-open_held : IsFirstOpen (rules_for (starting ∷ [])) held (codes "a") 1
+open_held : IsFirstOpen (starting ∷ []) held (codes "a") 1
 open_held = record {
   request = starting;
   unanswered = refl;
   number_is = refl;
-  first = All-from_recursion (λ other. (r : Request) → first_open (rules_for (starting ∷ [])) held other ≡ Some r → no_later (codes "a", 1) (other, r.number) ≡ true) (codes "a" ∷ [])
+  first = All-from_recursion (λ other. (r : Request) → first_open held (starting ∷ []) other ≡ Some r → no_later (codes "a", 1) (other, r.number) ≡ true) (codes "a" ∷ [])
       (first_of (starting ∷ []) held refl (codes "a") refl, tt);
 }
 
@@ -69,7 +70,7 @@ returns-clause-out_of_turn c = record {
     request = starting;
     unanswered = refl;
     number_is = refl;
-    first = All-from_recursion (λ other. (r : Request) → first_open (rules_for (starting ∷ second ∷ third ∷ [])) out_of_turn other ≡ Some r → no_later (codes "a", 1) (other, r.number) ≡ true) (codes "a" ∷ [])
+    first = All-from_recursion (λ other. (r : Request) → first_open out_of_turn (starting ∷ second ∷ third ∷ []) other ≡ Some r → no_later (codes "a", 1) (other, r.number) ≡ true) (codes "a" ∷ [])
         (first_of (starting ∷ second ∷ third ∷ []) out_of_turn refl (codes "a") refl, tt);
   };
 }

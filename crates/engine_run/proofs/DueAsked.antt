@@ -1,4 +1,4 @@
--- The requests of a file are those of the failure-free machine, so that what is due of a client is taken before a run rests.
+-- What is due of a client is one of its requests, and is taken before a run rests.
 use Rattle.std.proofs.Common.{◌≡◌, inl, inr, ℕ, ◌+◌, List, Bool, true, ◌&&◌, ◌==◌, [], ◌∷◌, ◌++◌, Option, Some, None, Result, Ok, Err, cond, refl, sym, ◌∙◌, ap, subst}
 use Rattle.std.specs.Prelude.{is_some, nat_lt}
 use Rattle.std.specs.List.{All, find, slice_get}
@@ -15,62 +15,16 @@ use Rattle.dura_value.specs.Ids.{Id, client, home, id_eq}
 use Rattle.dura_value.specs.Items.{took}
 use Rattle.dura_value.specs.Messages.{Message}
 use Rattle.dura_value.proofs.Ids.{id_same, same_bytes}
-use Rattle.engine_run.specs.Asked.{IsRequest, IsTaken}
-use Rattle.engine_run.proofs.LineAsked.{one_of, line_asked}
+use Rattle.engine_run.specs.Asked.{IsTaken}
 use Rattle.flow_syntax.specs.Syntax.{Flows}
 use Rattle.hub_store.specs.Trail.{Said}
 use Rattle.dura_model.proofs.Alone.{home_alone}
 use Rattle.part_rounds.specs.Fills.{CantTake}
 use Rattle.part_rounds.specs.Rounds.{HasSaid}
 use Rattle.part_rounds.proofs.Queues.{queue_found}
-use Rattle.request_reader.specs.Line.{Request, request_on}
-use Rattle.request_reader.specs.Requests.{Fault, bad_line, ◌>>=◌, latest, is_by, request_eq, with_new, with_used, with_request, is_blank, after_line, after_lines, lines_of, requests_in}
+use Rattle.request_reader.specs.Line.{Request}
+use Rattle.rest_laws.specs.Requests.{IsRequest}
 use Rattle.run_rules.specs.Rules.{Rules}
-
--- ---- of the lines of a file
-
-used_asked : (requests more : List Request) (earlier r : Request) → with_used requests earlier r ≡ Ok more → All IsRequest requests → All IsRequest more
-used_asked requests more earlier r is all = elim (one_of (request_eq earlier r) _ _ (Ok more) is) [
-  | inl same ↦ (let stay : requests ≡ more = cc same in subst (All IsRequest) stay all)
-  | inr clash ↦ absurd (cc clash)
-]
-
-new_asked : (number : ℕ) (requests more : List Request) (r : Request) → IsRequest r → with_new number requests r ≡ Ok more → All IsRequest requests → All IsRequest more
-new_asked number requests more r one is all = elim (one_of (nat_lt (latest r.client requests) r.number) _ _ (Ok more) is) [
-  | inl same ↦ (let longer : requests ++ r ∷ [] ≡ more = cc same in subst (All IsRequest) longer (All-append IsRequest requests (r ∷ []) all (All-from_recursion IsRequest (r ∷ []) (one, tt))))
-  | inr bad ↦ absurd (cc bad)
-]
-
-request_asked : (number : ℕ) (requests more : List Request) (r : Request) → IsRequest r → with_request number requests r ≡ Ok more → All IsRequest requests → All IsRequest more
-request_asked number requests more r one is all = at (find (is_by r.client r.number) requests) is
-  where
-    at : (o : Option Request) → option_map_or (λ earlier. with_used requests earlier r) o (with_new number requests r) ≡ Ok more → All IsRequest more
-    at None new = new_asked number requests more r one new all
-    at (Some earlier) used = used_asked requests more earlier r used all
-
-line_more : (number : ℕ) (requests : List Request) (line : List ℕ) (more : List Request) → after_line number requests line ≡ Ok more → All IsRequest requests → All IsRequest more
-line_more number requests line more is all = elim (one_of (is_blank line) _ _ (Ok more) is) [
-  | inl same ↦ (let stay : requests ≡ more = cc same in subst (All IsRequest) stay all)
-  | inr read ↦ at (request_on line) refl read
-]
-  where
-    at : (o : Option Request) → request_on line ≡ o → option_map_or (with_request number requests) o (Err (bad_line number)) ≡ Ok more → All IsRequest more
-    at None found bad = absurd (cc bad)
-    at (Some r) found more_is = request_asked number requests more r (line_asked line r found) more_is all
-
-lines_more : (number : ℕ) (lines : List (List ℕ)) (requests more : List Request) → after_lines number requests lines ≡ Ok more → All IsRequest requests → All IsRequest more
-lines_more number [] requests more is all = let stay : requests ≡ more = cc is in subst (All IsRequest) stay all
-lines_more number (line ∷ lines) requests more is all = at (after_line number requests line) refl is (λ m. lines_more (number + 1) lines m more)
-  where
-    at : (r : Result (List Request) Fault) → after_line number requests line ≡ r → (r >>= λ m. after_lines (number + 1) m lines) ≡ Ok more
-        → ((m : List Request) → after_lines (number + 1) m lines ≡ Ok more → All IsRequest m → All IsRequest more) → All IsRequest more
-    at (Ok m) found rest on = on m rest (line_more number requests line m found all)
-    at (Err fault) found rest on = absurd (cc rest)
-
-pub file_asked : (bytes : List ℕ) (requests : List Request) → requests_in bytes ≡ Ok requests → All IsRequest requests
-file_asked bytes requests is = lines_more 1 (lines_of bytes) [] requests is (All-from_recursion IsRequest [] tt)
-
--- ---- of what is due
 
 element_of : {X : Type 0} (P : X → Type 0) (l : List X) (k : ℕ) (x : X) → slice_get l k ≡ Some x → All P l → P x
 element_of P l k x is all = elim (slice_get_cases l k).1 [
