@@ -6,6 +6,7 @@ use engine_rounds::{Came, End, Served, Shape, serve};
 use flow_reader::read_flows;
 use flow_steps::Machines;
 use move_plan::read_plan;
+use node_core::Crew;
 use part_transport::Disturb;
 use request_reader::read_requests;
 use round_steps::Pace;
@@ -260,5 +261,39 @@ fn limited(rt: HostRuntime) {
             assert!(rt; labels >= 3);
             end_served(served);
         }
+    }
+}
+
+/// Partitions take over by the plan what so many turns of the store brought.
+fn follow(crew: &mut Crew, turns: u64) {
+    for part in 0..4 {
+        if let Some(node) = crew.next_owner(part, turns) {
+            crew.give(part, node);
+        }
+    }
+    crew.move_on(turns);
+}
+
+/// How many of four partitions the first node has.
+fn count_on_first(crew: &Crew) -> u32 {
+    let mut found = 0u32;
+    for part in 0..4 {
+        if crew.owner(part) == 0 {
+            found = found.saturating_add(1);
+        }
+    }
+    found
+}
+
+/// A plan that moves a partition at turn 20 and stops the first node at turn 30: from there on each partition is on the other node.
+#[test]
+fn on_the_node_that_is_left(rt: HostRuntime) {
+    let alloc = rt.alloc();
+    let plan = r#"{"moves":[{"turn":20,"partition":0,"node":1}],"stops":[{"turn":30,"node":0}]}"#;
+    let plan = read_plan(alloc, plan.as_bytes(), 4, 2).expect(&rt, "plan");
+    let mut crew = Crew::new(alloc, 4, 2, plan).expect(&rt, "memory");
+    for (turns, left) in [(0, 2), (19, 2), (20, 1), (29, 1), (30, 0), (31, 0), (1000, 0)] {
+        follow(&mut crew, turns);
+        assert!(rt; count_on_first(&crew) == left);
     }
 }

@@ -1,4 +1,5 @@
 pub mod AskedOnce
+pub mod Fit
 pub mod Founded
 pub mod HalfSaid
 pub mod Idle
