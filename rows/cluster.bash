@@ -102,6 +102,24 @@ OPTIONS
 PLANS
 }
 
+# A node stops at each turn of the store in a run whose packets all get lost, so that what is possible is done without them: the stop falls into
+# that too, and each client is told the same.
+trial_stops_at_each_turn() {
+    local turn wanted
+    transfers d
+    cp -r -- "$work/d" "$work/alone"
+    "$program" "$work/alone" run >"$work/stdout" 2>"$work/stderr"
+    wanted=$(by_client "$work/stdout")
+    for turn in $(seq 1 60); do
+        rm -rf -- "$work/s"
+        cp -r -- "$work/d" "$work/s"
+        printf '{"stops":[{"turn":%d,"node":0}]}' "$turn" >"$work/s/plan.json"
+        timeout --foreground -s KILL 20 "$program" "$work/s" run --nodes 2 --drop 1 >"$work/stdout" 2>"$work/stderr"
+        same "turn $turn: status" 0 $?
+        same "turn $turn: lines" "$wanted" "$(by_client "$work/stdout")"
+    done
+}
+
 # Plans that are refused: nothing is said, and no log is made.
 trial_bad_plans() {
     local place plan

@@ -36,10 +36,12 @@ push_adds begin served made end seen kept then more sees same keeps grows still 
 pub adds_then : (begin mid end : List Settled) (come : Pumped) → settled_labels mid ≡ settled_labels begin → Adds mid end come → Adds begin end come
 adds_then begin mid end (pumped.Labels more) same adds = (adds.0, let is = adds.1 in omega (arith, same, is))
 adds_then begin mid end pumped.Rest same adds = adds ∙ same
+adds_then begin mid end pumped.Stopped same adds = adds ∙ same
 
 -- where nothing was added, and nothing may be said to be but rest
 pub rest_adds : (begin end : List Settled) (come : Result (Option Pumped) Halt) → settled_labels end ≡ settled_labels begin → IfOk come (λ o. IfSome o (λ one. one ≡ pumped.Rest)) → IfOk come (MayAdd begin end)
 rest_adds begin end (Ok None) same kind = same
 rest_adds begin end (Ok (Some (pumped.Labels more))) same kind = absurd (cc kind)
 rest_adds begin end (Ok (Some pumped.Rest)) same kind = same
+rest_adds begin end (Ok (Some pumped.Stopped)) same kind = absurd (cc kind)
 rest_adds begin end (Err halt) same kind = tt

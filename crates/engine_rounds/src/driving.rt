@@ -439,6 +439,7 @@ fn go_on<V: Site, M: Picked, R: Reactions, A: Activities, C: Clock>(
             Ok(None)
         }
         Pumped::Rest => Ok(Some(End::Rest)),
+        Pumped::Stopped => Ok(None),
     }
 }
 

@@ -1,8 +1,8 @@
 //! Where a round added nothing, what is possible is done without the packets on their way.
 
-ghost use Rattle.std.specs.Prelude.{◌≡◌, ◌≢◌, ◌≤◌, ◌<◌, ◌+◌, false, max, length, Some, Ok, Err, IfErr, IfOk, IfSome, OnOk};
+ghost use Rattle.std.specs.Prelude.{◌≡◌, ◌≢◌, ◌≤◌, ◌<◌, ◌+◌, false, max, true, length, Some, Ok, Err, IfErr, IfOk, IfSome, OnOk};
 ghost use Rattle.cell_frames.specs.Joined.{StoreView, view_of};
-ghost use Rattle.engine_rounds.specs.Adding.{Adds, MayAdd};
+ghost use Rattle.engine_rounds.specs.Adding.{Adds, HasLostNode, MayAdd};
 ghost use Rattle.round_steps.specs.Labels.{settled_labels};
 ghost use Rattle.round_steps.specs.Serving.{GoesOn, IsServing};
 ghost use Rattle.node_core.specs.Halts.{IsPast, RisesFor};
@@ -20,7 +20,7 @@ use dura_value::Name;
 use gated_store::GatedStore;
 use log_items::Packet;
 use many_rules::{ByRules, Picked};
-use node_core::Halt;
+use node_core::{Crew, Halt};
 use part_rows::Reactions;
 use rest_check::is_at_rest;
 use round_steps::{Course, Pace, run_all_tasks, serve_all, serve_reached, step_and_commit};
@@ -151,6 +151,20 @@ pub enum Pumped {
     Labels(u64),
     /// Nothing is possible any more.
     Rest,
+    /// The node of a partition has stopped, and no label was settled since.
+    Stopped,
+}
+
+/// Whether a partition is on a node that has stopped by so many turns of the store.
+fn has_lost_node(crew: &Crew, count: u32, turns: u64) -> bool
+    ensures { result ≡ true → HasLostNode crew.now turns }
+{
+    'parts: for part in 0..count {
+        if crew.has_stopped(part, turns) {
+            return true;
+        }
+    }
+    false
 }
 
 /// All that is possible comes to the cells: what clients ask, what is left of streams, and what activities come to.
@@ -246,7 +260,7 @@ fn rest_of<V: Site, M: Picked>(
     }
 }
 
-/// Labels are settled, or entries are, or the first timer's moment comes, or nothing is possible any more.
+/// Labels are settled, or entries are, or the first timer's moment comes, or nothing is possible any more, or a node stopped on the way.
 fn push_on<V: Site, M: Picked, R: Reactions, A: Activities, C: Clock>(
     alloc: Global,
     reactions: &R,
@@ -280,12 +294,18 @@ fn push_on<V: Site, M: Picked, R: Reactions, A: Activities, C: Clock>(
         → store.new.logs.latest ≤ C.latest clock.new }
     ensures rest { result ≡ Ok (Some Pumped.Rest)
         → IsAtRest M.rules (trail_in store.new.logs) course.new.port }
+    ensures stopped { result ≡ Ok (Some Pumped.Stopped)
+        → HasLostNode course.new.crew store.new.turns }
     ensures adds { IfOk result (MayAdd (trail_in store.old.logs) (trail_in store.new.logs)) }
     ensures sees { OnOk result (course.new.seen ≡ length (trail_in store.new.logs)) }
 {
     let (turned, labels) = push(alloc, reactions, acts, store, cells, course, clients, pace)?;
     if labels > 0 {
         return Ok(Some(Pumped::Labels(labels)));
+    }
+    let count = cells.len() as u32;
+    if has_lost_node(&course.crew, count, store.turns()) {
+        return Ok(Some(Pumped::Stopped));
     }
     if turned {
         return Ok(None);
@@ -302,8 +322,8 @@ fn push_on<V: Site, M: Picked, R: Reactions, A: Activities, C: Clock>(
     }
 }
 
-/// Labels are settled where one is possible, or nothing is: a label more at least, and else the call is at rest. All that was settled before
-/// was seen.
+/// Labels are settled where one is possible, or nothing is: a label more at least, and else the call is at rest. Where a node stops on the way,
+/// whose partitions can't commit any more, it ends too, so that they go to another. All that was settled before was seen.
 pub fn pump<V: Site, M: Picked, R: Reactions, A: Activities, C: Clock>(
     alloc: Global,
     reactions: &R,
@@ -337,6 +357,7 @@ pub fn pump<V: Site, M: Picked, R: Reactions, A: Activities, C: Clock>(
         → store.new.logs.latest ≤ C.latest clock.new }
     ensures rest { result ≡ Ok Pumped.Rest
         → IsAtRest M.rules (trail_in store.new.logs) course.new.port }
+    ensures stopped { result ≡ Ok Pumped.Stopped → HasLostNode course.new.crew store.new.turns }
     ensures adds { IfOk result (Adds (trail_in store.old.logs) (trail_in store.new.logs)) }
     ensures sees { OnOk result (course.new.seen ≡ length (trail_in store.new.logs)) }
 {
