@@ -274,21 +274,21 @@ module _ (rules : Rules) (latest : ℕ) (serves : rules.serves ≡ true) (asks :
       by : ((m : List Settled) × (first.trail ≡ before ++ m) × (labels_of_commits (commits_of m) ≡ [])) ⊎ ((b : List Settled) × (before ≡ first.trail ++ b)) → has_answer w name x ≡ true
       by (inr behind) =
           let split : states_after rules.flows rules.count rules.begin (commits_of first.trail ++ commits_of behind.0) ≡ Some world.states =
-              ap (states_after rules.flows rules.count rules.begin) (sym (ap commits_of behind.1 ∙ puts_both first.trail behind.0)) ∙ world.made in
+          ap (states_after rules.flows rules.count rules.begin) (sym (ap commits_of behind.1 ∙ puts_both first.trail behind.0)) ∙ world.made in
           let both = put_apart rules.flows rules.count rules.begin world.states (commits_of first.trail) (commits_of behind.0) split in
           let had = told_answered rules (Follows rules latest) serves first.said both.0 both.1 name i x low at in
           subst (λ (v : World). has_answer v name x ≡ true) (sym world.world) (stays rules (commits_of behind.0) both.0 world.states both.2 name x.number had)
       by (inl more) =
           let split : states_after rules.flows rules.count rules.begin (commits_of first.trail ++ commits_of first.after) ≡ Some made.states =
-              ap (states_after rules.flows rules.count rules.begin) (sym (ap commits_of first.goes ∙ puts_both first.trail first.after)) ∙ made.made in
+          ap (states_after rules.flows rules.count rules.begin) (sym (ap commits_of first.goes ∙ puts_both first.trail first.after)) ∙ made.made in
           let both = put_apart rules.flows rules.count rules.begin made.states (commits_of first.trail) (commits_of first.after) split in
           let had = told_answered rules (Follows rules latest) serves first.said both.0 both.1 name i x low at in
           let there = world_at rules first.trail both.0 both.1
-              (numbered_by rules first.trail first.after (subst (λ (l : List Settled). AreNumbered fresh (rules.recovered ++ commits_of l)) first.goes made.numbered))
-              (accepted_front rules first.trail first.after (subst (AreAccepted rules) first.goes accepted)) in
+          (numbered_by rules first.trail first.after (subst (λ (l : List Settled). AreNumbered fresh (rules.recovered ++ commits_of l)) first.goes made.numbered))
+          (accepted_front rules first.trail first.after (subst (AreAccepted rules) first.goes accepted)) in
           let labels : labels_of_commits (commits_of first.trail) ≡ labels_of_commits (commits_of before) =
-              ap (λ (l : List Settled). labels_of_commits (commits_of l)) more.1 ∙ ap labels_of_commits (puts_both before more.0) ∙ labels_split (commits_of before) (commits_of more.0)
-              ∙ ap (λ (l : List Label). labels_of_commits (commits_of before) ++ l) more.2 ∙ append-nil (labels_of_commits (commits_of before)) in
+          ap (λ (l : List Settled). labels_of_commits (commits_of l)) more.1 ∙ ap labels_of_commits (puts_both before more.0) ∙ labels_split (commits_of before) (commits_of more.0)
+          ∙ ap (λ (l : List Label). labels_of_commits (commits_of before) ++ l) more.2 ∙ append-nil (labels_of_commits (commits_of before)) in
           let same : shown rules.flows rules.count both.0 ≡ w = some_same (sym (subst (λ (l : List Label). Legal rules.flows (labels_of_commits rules.recovered ++ l) (shown rules.flows rules.count both.0)) labels there.legal) ∙ world.legal) in
           subst (λ (v : World). has_answer v name x ≡ true) same had
 
@@ -302,13 +302,13 @@ module _ (rules : Rules) (latest : ℕ) (serves : rules.serves ≡ true) (asks :
           let first = first_label rules latest serves said before more split label rest is in
           let end = world_after rules trail made accepted in
           let run : labels_of_commits rules.recovered ++ labels_of_commits (commits_of trail) ≡ (labels_of_commits rules.recovered ++ labels_of_commits (commits_of before)) ++ label ∷ rest =
-              ap (λ (l : List Settled). labels_of_commits rules.recovered ++ labels_of_commits (commits_of l)) split
-              ∙ ap (λ (l : List Commit). labels_of_commits rules.recovered ++ labels_of_commits l) (puts_both before more)
-              ∙ ap (λ (l : List Label). labels_of_commits rules.recovered ++ l) (labels_split (commits_of before) (commits_of more) ∙ ap (λ (l : List Label). labels_of_commits (commits_of before) ++ l) is)
-              ∙ sym (append_assoc (labels_of_commits rules.recovered) (labels_of_commits (commits_of before)) (label ∷ rest)) in
+          ap (λ (l : List Settled). labels_of_commits rules.recovered ++ labels_of_commits (commits_of l)) split
+          ∙ ap (λ (l : List Commit). labels_of_commits rules.recovered ++ labels_of_commits l) (puts_both before more)
+          ∙ ap (λ (l : List Label). labels_of_commits rules.recovered ++ l) (labels_split (commits_of before) (commits_of more) ∙ ap (λ (l : List Label). labels_of_commits (commits_of before) ++ l) is)
+          ∙ sym (append_assoc (labels_of_commits rules.recovered) (labels_of_commits (commits_of before)) (label ∷ rest)) in
           let goes : after_from rules.flows w (label ∷ rest) ≡ Some (shown rules.flows rules.count made.states) =
-              sym (after_both rules.flows empty w (labels_of_commits rules.recovered ++ labels_of_commits (commits_of before)) (label ∷ rest) world.legal)
-              ∙ ap (after_from rules.flows empty) (sym run) ∙ end.legal in
+          sym (after_both rules.flows empty w (labels_of_commits rules.recovered ++ labels_of_commits (commits_of before)) (label ∷ rest) world.legal)
+          ∙ ap (after_from rules.flows empty) (sym run) ∙ end.legal in
           let next = both_some (step rules.flows w label) (λ (v : World). after_from rules.flows v rest) (shown rules.flows rules.count made.states) goes in
           not_possible rules.flows rules.requests asks w (answers_taken rules.flows (labels_of_commits rules.recovered ++ labels_of_commits (commits_of before)) w world.legal) quiet
           rules latest serves (pairs_of first.told) label next.0 refl first.due (answered_then before w world label first) next.1

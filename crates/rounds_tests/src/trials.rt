@@ -292,7 +292,15 @@ fn on_the_node_that_is_left(rt: HostRuntime) {
     let plan = r#"{"moves":[{"turn":20,"partition":0,"node":1}],"stops":[{"turn":30,"node":0}]}"#;
     let plan = read_plan(alloc, plan.as_bytes(), 4, 2).expect(&rt, "plan");
     let mut crew = Crew::new(alloc, 4, 2, plan).expect(&rt, "memory");
-    for (turns, left) in [(0, 2), (19, 2), (20, 1), (29, 1), (30, 0), (31, 0), (1000, 0)] {
+    for (turns, left) in [
+        (0, 2),
+        (19, 2),
+        (20, 1),
+        (29, 1),
+        (30, 0),
+        (31, 0),
+        (1000, 0),
+    ] {
         follow(&mut crew, turns);
         assert!(rt; count_on_first(&crew) == left);
     }

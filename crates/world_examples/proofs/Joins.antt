@@ -7,7 +7,7 @@ use Rattle.dura_value.specs.Dependencies.{Committed, Founded, named_by}
 use Rattle.dura_value.specs.Dependencies.Founded.{none, one_more}
 use Rattle.dura_value.specs.Items.{Entry}
 use Rattle.flow_syntax.specs.Syntax.{Flows}
-use Rattle.join_laws.proofs.Starting.{just_kept, nothing_kept}
+use Rattle.join_laws.proofs.Starting.{just_kept, none_kept, nothing_kept}
 use Rattle.join_laws.specs.Joined.{KeepsOn, BeginsOn, IsOneLife, IsSettledIn}
 use Rattle.many_logs.specs.Names.{committed_in, identities_in}
 use Rattle.many_logs.specs.Placing.{Commit, AllBelow, of_partition}
@@ -162,7 +162,7 @@ not_lived : (flows : Flows) (count digest : ℕ) → WasOrOpened flows count dig
 not_lived flows count digest (inl went) =
     let none : went.origin.steps ≡ [] = none_before went.origin.steps went.further in
     let long = ap length none in
-    let on = (went.crash [] (nothing_kept flows count digest (λ file. []) (record { each = λ file. refl })).kept 0 (omega (arith, long)) (omega arith) (λ file. []) (record { each = λ file. refl })).1 in
+    let on = (went.crash [] (none_kept flows count digest (λ file. []) (record { each = λ file. refl })) 0 (omega (arith, long)) (omega arith) (λ file. []) (record { each = λ file. refl })).1 in
     keeps_none flows count digest _ on.kept
 not_lived flows count digest (inr opened) = let nothing = opened.1 in cc nothing
 
