@@ -10,12 +10,14 @@ ghost use Rattle.join_laws.specs.Joined.{IsOneLife, life_at};
 ghost use Rattle.run_causes.specs.declared.cause.Cause.{Cause};
 ghost use Rattle.site_model.specs.History.{Step, content_of};
 
+use site_model::Site;
+
 /// What a run with these options comes to, where the site tells, is one life at each of its moments: of the flows that its file has, and of as
 /// many partitions.
-pub fn runs_are_lives()
-    ensures { (options : RunOptions) (flows : Flows) (digest latest : ℕ) (tells : Type 0)
-        (old new : List Step) (trail : List Settled) (cause : Cause) (moment : ℕ) → tells
-        → ComesTo options (λ file. content_of file old) latest tells old new trail cause
+pub fn runs_are_lives<V: Site>()
+    ensures { (options : RunOptions) (flows : Flows) (digest latest : ℕ) (old new : List Step)
+        (trail : List Settled) (cause : Cause) (moment : ℕ) (site : V) → V.tells site
+        → ComesTo options (λ file. content_of file old) latest (V.tells site) old new trail cause
         → AsksUnder options (λ file. content_of file old) flows digest → length old ≤ moment
         → moment ≤ length new
         → IsOneLife flows options.partitions digest (life_at old new trail moment) }
