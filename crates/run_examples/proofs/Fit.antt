@@ -1,5 +1,5 @@
 -- Which files are fit for a run.
-use Rattle.std.proofs.Common.{◌≡◌, ◌∙◌, ◌<◌, ℕ, List, [], ◌∷◌, true, false, codes, None, Some, refl, sym, subst, arith}
+use Rattle.std.proofs.Common.{◌≡◌, ◌∙◌, ℕ, [], ◌∷◌, false, codes, None, Some, refl, sym, subst, arith}
 use Rattle.std.proofs.lemmas.List.Elements.{All-from_recursion}
 use Rattle.client_order.specs.Clashes.{clashes, taken_in}
 use Rattle.cluster_run.specs.Asked.{Job}
@@ -14,7 +14,6 @@ use Rattle.part_items.specs.Examples.{digest, empty_log}
 use Rattle.part_items.specs.Logs.{logs_in, entries_in}
 use Rattle.recover_core.specs.declared.error.RecoverError.TheVariants as errors
 use Rattle.request_reader.specs.Line.{Request}
-use Rattle.run_causes.specs.declared.cause.Cause.{Cause}
 use Rattle.run_causes.specs.declared.cause.Cause.TheVariants as causes
 use Rattle.run_causes.specs.declared.cause.PlanPlace.TheVariants as places
 use Rattle.run_examples.proofs.LogsKept.{fresh_kept}
@@ -35,6 +34,7 @@ none_kept = record {
 }
 
 pub fit_here : AreFit (by_steps 1) good_files
+unfolding none_kept
 fit_here = record {
   job = one_asked;
   asks = record { flows_in_file = flows_of_one; digest_of_file = refl; requests_in_file = requests_of_one; accepted = refusal_good };

@@ -10,7 +10,7 @@ use Rattle.rest_laws.specs.Requests.{has_answer, first_open}
 use Rattle.part_items.specs.Examples.{request}
 use Rattle.dura_model.specs.Entries.{shown_by}
 use Rattle.request_reader.specs.Line.{Request}
-use Rattle.run_examples.specs.Calls.{no_flows, starting, rules_for, answered}
+use Rattle.run_examples.specs.Calls.{no_flows, starting, answered}
 use Rattle.run_rules.specs.Examples.{summing}
 use Rattle.run_examples.proofs.call_examples.requests_served.Goals as goal
 use Rattle.run_examples.proofs.Quiescent.{nobody_asks}

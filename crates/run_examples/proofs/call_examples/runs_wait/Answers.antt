@@ -10,7 +10,7 @@ use Rattle.rest_laws.specs.Requests.{first_open}
 use Rattle.part_items.specs.Examples.{request}
 use Rattle.dura_model.specs.Entries.{shown_by}
 use Rattle.request_reader.specs.Line.{Request}
-use Rattle.run_examples.specs.Calls.{no_flows, starting, second, third, rules_for, held_back, out_of_turn}
+use Rattle.run_examples.specs.Calls.{no_flows, starting, second, third, held_back, out_of_turn}
 use Rattle.run_examples.proofs.call_examples.runs_wait.Goals as goal
 use Rattle.run_examples.proofs.Quiescent.{nobody_asks}
 
