@@ -3,6 +3,7 @@ use Rattle.std.proofs.Common.{◌≡◌, ◌≤◌, ◌<◌, ◌∙◌, ◌++◌
 use Rattle.std.specs.List.{All}
 use Rattle.std.proofs.lemmas.Option.{get_or_from_slice_get, slice_get-map, slice_get_within}
 use Rattle.std.specs.Prelude.{option_map}
+use Rattle.cell_frames.proofs.Fresh.{fresh_none}
 use Rattle.cell_frames.specs.Joined.{StoreView, Joined, read_by, view_of}
 use Rattle.cell_frames.specs.TrimsRead.{IsReadBy}
 use Rattle.commit_gate.specs.Ledgers.{log_length}
@@ -48,8 +49,8 @@ none_lost position floors k entry is = absurd (cc is)
 of_none : {X : Type 0} (P : X → Type 0) (xs : List X) → xs ≡ [] → All P xs
 of_none P xs none = subst (All P) (sym none) (λ k d low. absurd (omega (arith, low)))
 
-begun_joined : (rules : Rules) (s : StoreView) (p incarnation : ℕ) (c : CellView) → s.trail ≡ [] → s.stage p ≡ stages.Resting → s.going p ≡ None → s.floors p ≡ [] → rules.incarnations p ≡ incarnation → IsBegun p incarnation c → Joined rules s p c
-begun_joined rules s p incarnation c trail rests none floors of_call begun = record {
+begun_joined : (rules : Rules) (s : StoreView) (p incarnation : ℕ) (c : CellView) → s.trail ≡ [] → s.stage p ≡ stages.Resting → s.going p ≡ None → s.floors p ≡ [] → rules.incarnations p ≡ incarnation → s.latest ≡ rules.since → IsBegun p incarnation rules.since c → Joined rules s p c
+begun_joined rules s p incarnation c trail rests none floors of_call latest begun = record {
   goes = record {
     number = begun.number;
     mine = begun.mine ∙ sym (ap (of_part p) trail);
@@ -62,7 +63,9 @@ begun_joined rules s p incarnation c trail rests none floors of_call begun = rec
       run = λ base is serves. of_none (λ w. WasAsked rules.flows base w.item) c.waits begun.waits;
     };
     of_call = let e = begun.incarnation_is in omega (arith, of_call, e);
-    timely = let e = begun.now in omega (arith, e);
+    since = let e = begun.now in omega (arith, e);
+    timely = let e = begun.now in omega (arith, e, latest);
+    fresh = λ serves. fresh_none s.latest c (let e = begun.now in omega (arith, e, latest)) begun.entries;
     unlost = record {
       unlost = subst (IsFrameUnlost (log_length (ledgers rules p (of_part p s.trail))) (s.floors p)) (sym begun.entries) (none_lost (log_length (ledgers rules p (of_part p s.trail))) (s.floors p));
       latest = of_none (λ (floor : Floor). floor.incarnation ≤ c.incarnation) (s.floors p) floors;
@@ -80,13 +83,13 @@ begun_joined rules s p incarnation c trail rests none floors of_call begun = rec
 
 -- and so do all cells
 pub all_joined : {V L : Type 0} {G : sites.Ghosts V} {K : starts.Ghosts (gated_types.Gated L)} (rules : Rules) (store : GatedStore V L G K) (incarnations : List ℕ) (cells : List CellView) → IsUntouched rules.count store → length cells ≡ rules.count
-    → ((p incarnation : ℕ) → slice_get incarnations p ≡ Some incarnation → rules.incarnations p ≡ incarnation) → AllBegun incarnations cells → AllJoined rules (view_of store) cells
-all_joined rules store incarnations cells untouched many from begun p c is =
+    → ((p incarnation : ℕ) → slice_get incarnations p ≡ Some incarnation → rules.incarnations p ≡ incarnation) → store.logs.latest ≡ rules.since → AllBegun incarnations rules.since cells → AllJoined rules (view_of store) cells
+all_joined rules store incarnations cells untouched many from latest begun p c is =
     let one = begun p c is in
     let within : p < length cells = slice_get_within {A = CellView} cells p c is in
     let below : p < rules.count = omega (arith, within, many) in
     let rests = untouched.rest p below in
-    (one.2.going, begun_joined rules (view_of store) p one.0 c untouched.trail rests (none_going (way_of store.logs.ways.items p) rests) (untouched.floors p) (from p one.0 one.1) one.2)
+    (one.2.going, begun_joined rules (view_of store) p one.0 c untouched.trail rests (none_going (way_of store.logs.ways.items p) rests) (untouched.floors p) (from p one.0 one.1) latest one.2)
 
 -- the state of a partition among those of all
 pub state_at : (states : List PartState) (place : ℕ) (s : PartState) → slice_get states place ≡ Some s → parts_in states place ≡ state_of s
@@ -94,9 +97,9 @@ state_at states place s at =
     get_or_from_slice_get (map state_of states) place (state_of s) (fresh place) (slice_get-map state_of states place ∙ ap (option_map state_of) at)
 
 -- one cell more
-pub one_more_begun : (incarnations : List ℕ) (cells : List CellView) (place incarnation : ℕ) (c : CellView) → place ≡ length cells → slice_get incarnations place ≡ Some incarnation → IsBegun place incarnation c → AllBegun incarnations cells → AllBegun incarnations (cells ++ c ∷ [])
-one_more_begun incarnations cells place incarnation c place_is at begun all =
-    let P : ℕ → CellView → Type 0 = λ p one. (i : ℕ) × (slice_get incarnations p ≡ Some i) × IsBegun p i one in
+pub one_more_begun : (incarnations : List ℕ) (since : ℕ) (cells : List CellView) (place incarnation : ℕ) (c : CellView) → place ≡ length cells → slice_get incarnations place ≡ Some incarnation → IsBegun place incarnation since c → AllBegun incarnations since cells → AllBegun incarnations since (cells ++ c ∷ [])
+one_more_begun incarnations since cells place incarnation c place_is at begun all =
+    let P : ℕ → CellView → Type 0 = λ p one. (i : ℕ) × (slice_get incarnations p ≡ Some i) × IsBegun p i since one in
     pushed P cells c all (subst (λ (n : ℕ). P n c) place_is (incarnation, at, begun))
 
 -- an element stands where those before it end

@@ -14,8 +14,8 @@ use Rattle.site_model.specs.History.{Step}
 use Rattle.call_begins.specs.Begins.{BeginsWith, call_rules}
 
 -- the rules of a call begin with what it is begun with
-pub begins_with : (flows : Flows) (count : ℕ) (begun : Begun) (run : List Commit) (requests : List Request) (serves : Bool) → 0 < count → count ≤ 32 → CanBegin count begun → BeginsWith (call_rules flows count begun run requests serves) begun.states.items begun.incarnations.items
-begins_with flows count begun run requests serves some few can = record {
+pub begins_with : (flows : Flows) (count : ℕ) (begun : Begun) (run : List Commit) (since most : ℕ) (requests : List Request) (serves : Bool) → 0 < count → count ≤ 32 → CanBegin count begun → BeginsWith (call_rules flows count begun run since most requests serves) begun.states.items begun.incarnations.items
+begins_with flows count begun run since most requests serves some few can = record {
   some = some;
   few = few;
   all = can.all;
@@ -28,8 +28,8 @@ begins_with flows count begun run requests serves some few can = record {
 }
 
 -- each log goes on where the state does
-pub has_begun : (flows : Flows) (count digest : ℕ) (steps : List Step) (begun : Begun) (run : List Commit) (requests : List Request) (serves : Bool) → MadeBy flows count begun run → HasBegun (origin_of count digest steps begun) (call_rules flows count begun run requests serves)
-has_begun flows count digest steps begun run requests serves made = record {
+pub has_begun : (flows : Flows) (count digest : ℕ) (steps : List Step) (begun : Begun) (run : List Commit) (since most : ℕ) (requests : List Request) (serves : Bool) → MadeBy flows count begun run → HasBegun (origin_of count digest steps begun) (call_rules flows count begun run since most requests serves)
+has_begun flows count digest steps begun run since most requests serves made = record {
   goes = λ p below.
       let there = origin_goes count digest (files_of begun.logs.items) steps (parts_in begun.states.items) p in
       record { position = there.at; incarnation = there.follows };

@@ -22,14 +22,17 @@ use Rattle.state_ledgers.specs.Ledger.{IsLedgerOf}
 
 -- ---- the rules
 
--- the rules of a call from what was recovered on, whose entries were accepted in this order: what clients ask, and whether it serves them
-abbrev pub call_rules : Flows → (count : ℕ) → Begun → List Commit → List Request → (serves : Bool) → Rules
-call_rules flows count begun run requests serves = record {
+-- the rules of a call from what was recovered on, whose entries were accepted in this order: the moment that the clock gave first, how many
+-- items an entry may have, what clients ask, and whether it serves them
+abbrev pub call_rules : Flows → (count : ℕ) → Begun → List Commit → (since most : ℕ) → List Request → (serves : Bool) → Rules
+call_rules flows count begun run since most requests serves = record {
   flows = flows;
   count = count;
   recovered = run;
   begin = parts_in begun.states.items;
   incarnations = λ partition. slice_index_or begun.incarnations.items partition 0;
+  since = since;
+  most = most;
   requests = requests;
   serves = serves;
 }
@@ -63,20 +66,21 @@ pub record IsUntouched {V L : Type 0} {G : sites.Ghosts V} {K : starts.Ghosts (g
 
 -- ---- the cells
 
--- The cell of this partition has a state, and makes entries in this incarnation. It has settled nothing, holds nothing, and nothing waits.
-pub record IsBegun (partition incarnation : ℕ) (c : CellView) : Type 0 where
+-- The cell of this partition has a state, and makes entries in this incarnation, from this moment on. It has settled nothing, holds nothing,
+-- and nothing waits.
+pub record IsBegun (partition incarnation since : ℕ) (c : CellView) : Type 0 where
   pub number : c.number ≡ partition
   pub going : c.going ≡ true
   pub mine : c.slot.mine ≡ []
   pub entries : c.entries ≡ []
   pub incarnation_is : c.incarnation ≡ incarnation
   pub waits : c.waits ≡ []
-  pub now : c.now ≡ 0
+  pub now : c.now ≡ since
   pub out : c.out ≡ 0
 
 -- and so it is with each of these
-abbrev pub AllBegun : (incarnations : List ℕ) → List CellView → Type 0
-AllBegun incarnations cells = (partition : ℕ) (c : CellView) → slice_get cells partition ≡ Some c → (incarnation : ℕ) × (slice_get incarnations partition ≡ Some incarnation) × IsBegun partition incarnation c
+abbrev pub AllBegun : (incarnations : List ℕ) → (since : ℕ) → List CellView → Type 0
+AllBegun incarnations since cells = (partition : ℕ) (c : CellView) → slice_get cells partition ≡ Some c → (incarnation : ℕ) × (slice_get incarnations partition ≡ Some incarnation) × IsBegun partition incarnation since c
 
 -- each cell has a state, and is joined to the store
 abbrev pub AllJoined : Rules → StoreView → List CellView → Type 0

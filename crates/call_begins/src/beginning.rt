@@ -66,12 +66,13 @@ pub fn push_cell<M: Picked>(
     }
 }
 
-/// The cell of a partition that goes on from this state, with nothing settled.
+/// The cell of a partition that goes on from this state and from this moment on, with nothing settled.
 pub fn cell_of<M: Picked>(
     alloc: Global,
     state: PartState,
     partition: u32,
     incarnation: u64,
+    since: u64,
     trail: &[Settled],
     nodes: u32,
 ) -> Cell<Seat<M>>
@@ -81,24 +82,27 @@ pub fn cell_of<M: Picked>(
     requires young { incarnation < 2 ^ 62 }
     requires younger { (state_of state).incarnation ≤ incarnation }
     requires room { (state_of state).position ≤ 2 ^ 62 }
-    ensures { IsBegun partition incarnation result }
+    ensures { IsBegun partition incarnation since result }
 {
     let seat = Seat::of(partition, trail);
-    Cell::new(alloc, state, seat, owner_of(partition, nodes), incarnation)
+    let mut cell = Cell::new(alloc, state, seat, owner_of(partition, nodes), incarnation);
+    let _ = cell.fire(since);
+    cell
 }
 
-/// A cell for each partition, in their order, with nothing settled.
+/// A cell for each partition, in their order, from this moment on, with nothing settled.
 pub fn cells_of<M: Picked>(
     alloc: Global,
     states: Vec<PartState>,
     incarnations: &[u64],
+    since: u64,
     trail: &[Settled],
     nodes: u32,
 ) -> Result<Vec<Cell<Seat<M>>>, AllocError>
     requires new { trail_of trail.now ≡ [] }
     requires begins { BeginsWith M.rules states.items incarnations.now }
     ensures many { IfOk result (λ cells. length cells.items ≡ M.rules.count) }
-    ensures begun { IfOk result (λ cells. AllBegun incarnations.now cells.items) }
+    ensures begun { IfOk result (λ cells. AllBegun incarnations.now since cells.items) }
 {
     let mut cells = Vec::new(alloc);
     let mut place: u32 = 0;
@@ -112,6 +116,7 @@ pub fn cells_of<M: Picked>(
             state,
             place,
             incarnations[place as usize],
+            since,
             trail,
             nodes,
         );

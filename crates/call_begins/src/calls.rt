@@ -39,33 +39,37 @@ fn call_over<V: Site, N: Named>(
     store: GatedStore<V, ByRules<Of<N>>>,
     states: Vec<PartState>,
     incarnations: &[u64],
+    since: u64,
     nodes: u32,
 ) -> Result<Call<V, N>, V>
     requires kept { IsKept N.origin.count (ledgers N.rules) (readers N.rules) (Makes N.rules)
         store }
     requires untouched { IsUntouched N.rules.count store }
     requires begins { BeginsWith N.rules states.items incarnations.now }
+    requires since { N.rules.since ≡ since }
+    requires latest { store.logs.latest ≡ since }
     ensures same { IfOk result (λ call. call.store ≡ store) }
     ensures untouched { IfOk result (λ call. IsUntouched N.rules.count call.store) }
     ensures many { IfOk result (λ call. length call.cells.items ≡ N.rules.count) }
-    ensures begun { IfOk result (λ call. AllBegun incarnations.now call.cells.items) }
+    ensures begun { IfOk result (λ call. AllBegun incarnations.now since call.cells.items) }
     ensures joined { IfOk result (λ call.
         AllJoined N.rules (view_of call.store) call.cells.items) }
     ensures back { IfErr result (λ site. site ≡ store.logs.site) }
 {
-    let Ok(cells) = cells_of(alloc, states, incarnations, store.settled(), nodes) else {
+    let Ok(cells) = cells_of(alloc, states, incarnations, since, store.settled(), nodes) else {
         let Ended { site, trail: _ } = end_call(store);
         return Err(site);
     };
     Ok(Call { store, cells })
 }
 
-/// A call over all partitions begins: a store over their logs, and a cell for each. Where memory runs out the site comes back. Who begins it
-/// picks by which rules, from what was recovered on.
+/// A call over all partitions begins at this moment, which the clock gave: a store over their logs, and a cell for each. Where memory runs
+/// out the site comes back. Who begins it picks by which rules, from what was recovered on.
 pub fn begin_call<V: Site, N: Named>(
     alloc: Global,
     site: V,
     begun: Begun,
+    since: u64,
     nodes: u32,
     count: u32,
     segment: u64,
@@ -76,7 +80,7 @@ pub fn begin_call<V: Site, N: Named>(
     requires can { CanBegin count begun }
     requires made { MadeBy N.rules.flows count begun N.rules.recovered }
     requires rules { N.rules ≡ call_rules N.rules.flows count begun N.rules.recovered
-        N.rules.requests N.rules.serves }
+        since N.rules.most N.rules.requests N.rules.serves }
     requires origin { IsOrigin N.origin }
     requires goes { HasBegun N.origin N.rules }
     requires begun { V.tells site → StoreBegun N.origin (V.history site) begun.logs.items }
@@ -84,11 +88,12 @@ pub fn begin_call<V: Site, N: Named>(
         (Makes N.rules) call.store) }
     ensures untouched { IfOk result (λ call. IsUntouched N.rules.count call.store) }
     ensures many { IfOk result (λ call. length call.cells.items ≡ count) }
-    ensures begun { IfOk result (λ call. AllBegun begun.incarnations.items call.cells.items) }
+    ensures begun { IfOk result (λ call. AllBegun begun.incarnations.items since
+        call.cells.items) }
     ensures joined { IfOk result (λ call.
         AllJoined N.rules (view_of call.store) call.cells.items) }
     ensures segment { IfOk result (λ call. call.store.logs.segment ≡ segment) }
-    ensures latest { IfOk result (λ call. call.store.logs.latest ≡ 0) }
+    ensures latest { IfOk result (λ call. call.store.logs.latest ≡ since) }
     ensures turns { IfOk result (λ call. call.store.turns ≡ 0) }
     ensures site { IfOk result (λ call. call.store.logs.site ≡ site) }
     ensures back { IfErr result (λ back. back ≡ site) }
@@ -103,7 +108,11 @@ pub fn begin_call<V: Site, N: Named>(
         return Err(site);
     };
     match GatedStore::<V, ByRules<Of<N>>>::begin(alloc, site, logs, ledgers, segment) {
-        Ok(store) => call_over(alloc, store, states, &incarnations, nodes),
+        Ok(store) => {
+            let mut store = store;
+            store.raise(since);
+            call_over(alloc, store, states, &incarnations, since, nodes)
+        }
         Err(site) => Err(site),
     }
 }

@@ -34,6 +34,8 @@ impl Named for Brand {
       recovered = [];
       begin = fresh;
       incarnations = λ partition. 0;
+      since = 0;
+      most = 64;
       requests = [];
       serves = false;
     } };

@@ -4,9 +4,11 @@ use Rattle.std.specs.List.{All, Contains}
 use Rattle.std.proofs.lemmas.List.Elements.{All-nil}
 use Rattle.cell_frames.proofs.Coming.{arrives_ours, offers_ours, records_ours}
 use Rattle.cell_frames.proofs.GivenUp.{trims_ours}
-use Rattle.cell_frames.proofs.Holding.{made_ours}
+use Rattle.cell_frames.proofs.Fresh.{fresh_same, fresh_more, fresh_none}
+use Rattle.cell_frames.proofs.Holding.{made_ours, one_fresh}
 use Rattle.cell_frames.proofs.Reading.{made_read, idle_read, spent_read, arrives_read, offers_read, records_read, trims_read}
 use Rattle.cell_frames.proofs.Unlost.{made_unlost}
+use Rattle.cell_frames.specs.Fresh.{IsFresh}
 use Rattle.cell_frames.specs.Joined.{StoreView, Joined, read_by}
 use Rattle.cell_frames.specs.Ours.{AreOurs, WaitOurs}
 use Rattle.cell_frames.specs.TrimsRead.{TrimsRead}
@@ -67,8 +69,8 @@ module _ (rules : Rules) (s : StoreView) (p : ℕ) (old : CellView) (joined : Jo
 
   -- of its entries those that are out stay, and of all else it keeps what joins it
   alike : (entries : List Entry) (waits : List Waiting) (given : Option GivenOut) (owner : ℕ) (round : Round) (new : CellView) → new ≡ record old { entries = entries; waits = waits; given = given; owner = owner; round = round } → take old.out entries ≡ take old.out old.entries
-      → Both new → Unlost new → Reads new → Joined rules s p new
-  alike entries waits given owner round new is front ours unlost reads =
+      → Both new → Unlost new → Reads new → (rules.serves ≡ true → IsFresh s.latest new) → Joined rules s p new
+  alike entries waits given owner round new is front ours unlost reads fresh =
       let goes = joined.goes in
       let same_out : new.out ≡ old.out = ap (λ (v : CellView). v.out) is in
       let same_front : take new.out new.entries ≡ take old.out old.entries = ap (λ (v : CellView). take v.out v.entries) is ∙ front in
@@ -79,7 +81,9 @@ module _ (rules : Rules) (s : StoreView) (p : ℕ) (old : CellView) (joined : Jo
           ours = ours.0;
           waits = ours.1;
           of_call = let low = goes.of_call in let same : new.incarnation ≡ old.incarnation = ap (λ (v : CellView). v.incarnation) is in omega (arith, low, same);
+          since = let since = goes.since in let same : new.now ≡ old.now = ap (λ (v : CellView). v.now) is in omega (arith, since, same);
           timely = let timely = goes.timely in let same : new.now ≡ old.now = ap (λ (v : CellView). v.now) is in omega (arith, timely, same);
+          fresh = fresh;
           unlost = unlost;
           read = reads;
         };
@@ -89,24 +93,33 @@ module _ (rules : Rules) (s : StoreView) (p : ℕ) (old : CellView) (joined : Jo
         };
       }
 
+  -- where it holds the same
+  fresh_alike : (new : CellView) → new.now ≡ old.now → new.entries ≡ old.entries → rules.serves ≡ true → IsFresh s.latest new
+  fresh_alike new now entries serves = fresh_same s.latest old new now entries (joined.goes.fresh serves)
+
   -- with the same entries
   waits_alike : (waits : List Waiting) (round : Round) (new : CellView) → new ≡ record old { waits = waits; round = round } → Both new → Reads new → Joined rules s p new
   waits_alike waits round new is ours reads =
       alike old.entries waits old.given old.owner round new is refl ours (subst Unlost (sym is) (record { unlost = joined.goes.unlost.unlost; latest = joined.goes.unlost.latest })) reads
+      (fresh_alike new (ap (λ (v : CellView). v.now) is) (ap (λ (v : CellView). v.entries) is))
 
   same_joined : (new : CellView) → new ≡ old → Joined rules s p new
   same_joined new is = subst (Joined rules s p) (sym is) joined
 
   -- ---- turns
 
-  pub made_joined : HasFacts rules.flows rules.count (rules.begin old.number) old → (mode : Mode) (limit : ℕ) (new : CellView) (position : ℕ) (packets : List Packet) → MakesEntry rules.flows rules.count (rules.begin old.number) mode limit old new position packets → Joined rules s p new
-  made_joined facts mode limit new position packets makes =
+  pub made_joined : HasFacts rules.flows rules.count (rules.begin old.number) old → (mode : Mode) (limit : ℕ) → limit ≤ rules.most → (new : CellView) (position : ℕ) (packets : List Packet) → MakesEntry rules.flows rules.count (rules.begin old.number) mode limit old new position packets → Joined rules s p new
+  made_joined facts mode limit most new position packets makes =
       let goes = joined.goes in
       let first : rules.incarnations old.number ≤ old.incarnation = subst (λ (n : ℕ). rules.incarnations n ≤ old.incarnation) (sym goes.number) goes.of_call in
       alike (old.entries ++ makes.entry ∷ []) makes.rest old.given old.owner (next_round old.round) new makes.becomes (front_stays old.out old.entries (makes.entry ∷ []) facts.within)
-      (made_ours rules s.latest s.told mode limit old position packets facts first goes.timely goes.ours goes.waits new makes)
+      (made_ours rules s.latest s.told mode limit old position packets facts first most goes.since goes.timely goes.ours goes.waits new makes)
       (made_unlost (log_length (ledgers rules p (of_part p s.trail))) (s.floors p) old goes.unlost rules.flows rules.count (rules.begin old.number) mode limit new position packets makes)
       (made_read (read_by rules s p) old goes.read rules.flows rules.count (rules.begin old.number) mode limit new position packets makes)
+      (λ serves.
+      let fresh = goes.fresh serves in
+      fresh_more s.latest old new makes.entry (ap (λ (v : CellView). v.now) makes.becomes) (ap (λ (v : CellView). v.entries) makes.becomes)
+      (one_fresh rules s.latest s.told mode limit old position packets facts first most goes.since goes.timely goes.ours goes.waits new makes s.latest fresh.heard) fresh)
 
   -- the last of what waits go on waiting
   fewer_ours : (looked rest : List Waiting) (round : Round) → old.waits ≡ looked ++ rest → Both (record old { waits = rest; round = round })
@@ -133,11 +146,11 @@ module _ (rules : Rules) (s : StoreView) (p : ℕ) (old : CellView) (joined : Jo
       waits_alike spent.rest (next_round old.round) new spent.becomes (subst Both (sym spent.becomes) (fewer_ours spent.looked spent.rest (next_round old.round) spent.left))
       (spent_read (read_by rules s p) old joined.goes.read rules.flows rules.count (rules.begin old.number) new number spent)
 
-  pub turned_joined : HasFacts rules.flows rules.count (rules.begin old.number) old → (mode : Mode) (limit : ℕ) (turned : CellTurn) (new : CellView) → CellTurns rules.flows rules.count (rules.begin old.number) mode limit old turned new → Joined rules s p new
-  turned_joined facts mode limit (turns.Turned position packets) new is = made_joined facts mode limit new position packets.items is.1
-  turned_joined facts mode limit turns.Held new is = same_joined new is.1
-  turned_joined facts mode limit turns.Idle new is = idle_joined new is.1
-  turned_joined facts mode limit (turns.Spent number) new is = spent_joined new number is.1
+  pub turned_joined : HasFacts rules.flows rules.count (rules.begin old.number) old → (mode : Mode) (limit : ℕ) → limit ≤ rules.most → (turned : CellTurn) (new : CellView) → CellTurns rules.flows rules.count (rules.begin old.number) mode limit old turned new → Joined rules s p new
+  turned_joined facts mode limit most (turns.Turned position packets) new is = made_joined facts mode limit most new position packets.items is.1
+  turned_joined facts mode limit most turns.Held new is = same_joined new is.1
+  turned_joined facts mode limit most turns.Idle new is = idle_joined new is.1
+  turned_joined facts mode limit most (turns.Spent number) new is = spent_joined new number is.1
 
   -- ---- what comes
 
@@ -178,8 +191,8 @@ module _ (rules : Rules) (s : StoreView) (p : ℕ) (old : CellView) (joined : Jo
   ours_then : (later moment : ℕ) → s.latest ≤ later → AreOurs rules later s.told (record old { now = moment })
   ours_then later moment above = record { ours = λ k d inside. ours_later rules s.latest old.number _ later (pairs_of s.told) above (joined.goes.ours.ours k d inside); run = joined.goes.ours.run }
 
-  moved : (later moment : ℕ) → s.latest ≤ later → moment ≤ later → Joined rules (heard later) p (record old { now = moment })
-  moved later moment above low =
+  moved : (later moment : ℕ) → s.latest ≤ later → old.now ≤ moment → moment ≤ later → (rules.serves ≡ true → IsFresh later (record old { now = moment })) → Joined rules (heard later) p (record old { now = moment })
+  moved later moment above further low fresh =
       let goes = joined.goes in
       record {
         goes = record {
@@ -188,24 +201,37 @@ module _ (rules : Rules) (s : StoreView) (p : ℕ) (old : CellView) (joined : Jo
           ours = ours_then later moment above;
           waits = record { asked = goes.waits.asked; run = goes.waits.run };
           of_call = goes.of_call;
+          since = let since = goes.since in omega (arith, since, further);
           timely = low;
+          fresh = fresh;
           unlost = record { unlost = goes.unlost.unlost; latest = goes.unlost.latest };
           read = record { held = goes.read.held; waits = goes.read.waits };
         };
         out = record { rests = joined.out.rests; goes = joined.out.goes };
       }
 
-  pub fired_joined : (now later : ℕ) (new : CellView) → now ≤ later → s.latest ≤ later → new ≡ record old { now = max old.now now } → Joined rules (heard later) p new
-  fired_joined now later new low above is = subst (Joined rules (heard later) p) (sym is) (moved later (max old.now now) above (let timely = joined.goes.timely in omega (arith, timely, low, above)))
+  -- A cell that serves clients hears of a moment only where it holds nothing.
+  pub fired_joined : (now later : ℕ) (new : CellView) → now ≤ later → s.latest ≤ later → (rules.serves ≡ true → (old.entries ≡ []) × (later ≤ max s.latest now)) → new ≡ record old { now = max old.now now } → Joined rules (heard later) p new
+  fired_joined now later new low above none is =
+      subst (Joined rules (heard later) p) (sym is) (moved later (max old.now now) above (omega arith) (let timely = joined.goes.timely in omega (arith, timely, low, above))
+      (λ serves.
+      let fresh = joined.goes.fresh serves in
+      let heard = fresh.heard in
+      let top = (none serves).1 in
+      fresh_none later (record old { now = max old.now now }) (omega (arith, heard, top)) (none serves).0))
 
-  pub heard_joined : (later : ℕ) → s.latest ≤ later → Joined rules (heard later) p old
-  heard_joined later above = moved later old.now above (let timely = joined.goes.timely in omega (arith, timely, above))
+  pub heard_joined : (later : ℕ) → s.latest ≤ later → (rules.serves ≡ true → later ≤ s.latest) → Joined rules (heard later) p old
+  heard_joined later above same =
+      moved later old.now above (omega arith) (let timely = joined.goes.timely in omega (arith, timely, above)) (λ serves.
+      let fresh = joined.goes.fresh serves in
+      let is : later ≡ s.latest = let low = same serves in omega (arith, low, above) in
+      subst (λ (n : ℕ). IsFresh n old) (sym is) fresh)
 
   -- what it gave out and who owns it joins nothing
   aside_joined : (given : Option GivenOut) (owner : ℕ) (new : CellView) → new ≡ record old { given = given; owner = owner } → Joined rules s p new
   aside_joined given owner new is =
       alike old.entries old.waits given owner old.round new is refl (subst Both (sym is) (record { ours = joined.goes.ours.ours; run = joined.goes.ours.run }, record { asked = joined.goes.waits.asked; run = joined.goes.waits.run }))
-      (subst Unlost (sym is) (record { unlost = joined.goes.unlost.unlost; latest = joined.goes.unlost.latest })) (subst Reads (sym is) (record { held = joined.goes.read.held; waits = joined.goes.read.waits }))
+      (subst Unlost (sym is) (record { unlost = joined.goes.unlost.unlost; latest = joined.goes.unlost.latest })) (subst Reads (sym is) (record { held = joined.goes.read.held; waits = joined.goes.read.waits })) (fresh_alike new (ap (λ (v : CellView). v.now) is) (ap (λ (v : CellView). v.entries) is))
 
   pub owned_joined : (node : ℕ) (new : CellView) → new ≡ record old { owner = node } → Joined rules s p new
   owned_joined node new is = aside_joined old.given node new is

@@ -3,6 +3,8 @@ use Rattle.std.proofs.Common.{◌≡◌, ◌<◌, ◌≤◌, ℕ, zero, suc, ◌
 use Rattle.std.specs.List.{All}
 use Rattle.std.proofs.lemmas.List.{length-map, length-take}
 use Rattle.std.proofs.lemmas.List.Elements.{All-tail}
+use Rattle.cell_frames.proofs.Fresh.{fresh_back, fresh_front, fresh_same}
+use Rattle.cell_frames.specs.Fresh.{IsFresh}
 use Rattle.cell_frames.specs.Joined.{StoreView, GoesOnFrom, Joined, read_by}
 use Rattle.cell_frames.proofs.Stays.{StaysFor, goes_still, goes_out, own_then, longer, more_read, same_reads}
 use Rattle.cell_frames.specs.Ours.{AreOurs, WaitOurs}
@@ -128,7 +130,9 @@ module _ (rules : Rules) (p at : ℕ) (going : List Entry) (old new : StoreView)
     ours = ours_then;
     waits = waits_then;
     of_call = goes.of_call;
+    since = goes.since;
     timely = let timely = goes.timely in omega (arith, timely, latest);
+    fresh = λ serves. subst (λ (n : ℕ). IsFresh n moved) (sym latest) (fresh_back old.latest c.out c moved refl refl (goes.fresh serves));
     unlost = unlost_then;
     read = subst (TrimsRead (read_by rules new p)) settled.0 (further_read (read_by rules old p) (read_by rules new p) after (more_read rules p at going old new trail makes p) (settled_read (read_by rules old p) c goes.read c.out slot after settled));
   }
@@ -152,15 +156,17 @@ rewound_above flows count begin c after facts marks from lost rewound =
 
 module _ (rules : Rules) (p : ℕ) (old new : StoreView) (latest : new.latest ≡ old.latest) (told : new.told ≡ old.told) (trail : new.trail ≡ old.trail) (c after : CellView) (from : ℕ) (floors : new.floors p ≡ old.floors p ++ floor_of after from ∷ []) where
   -- what the store has of all else
-  given_up_goes : after.number ≡ c.number → after.slot ≡ c.slot → after.incarnation ≡ c.incarnation + 1 → after.now ≡ c.now → AreOurs rules old.latest old.told after → WaitOurs rules old.told after
+  given_up_goes : (kept : ℕ) → after.number ≡ c.number → after.slot ≡ c.slot → after.incarnation ≡ c.incarnation + 1 → after.now ≡ c.now → after.entries ≡ take kept c.entries → AreOurs rules old.latest old.told after → WaitOurs rules old.told after
       → HoldsUnlost (log_length (ledgers rules p (of_part p old.trail))) (old.floors p ++ floor_of after from ∷ []) after → TrimsRead (read_by rules old p) after → GoesOnFrom rules old p c → GoesOnFrom rules new p after
-  given_up_goes number slot incarnation now ours waits unlost read goes = record {
+  given_up_goes kept number slot incarnation now entries ours waits unlost read goes = record {
     number = number ∙ goes.number;
     mine = ap (λ (s : Slot). s.mine) slot ∙ goes.mine ∙ ap (of_part p) (sym trail);
     ours = subst (λ (n : ℕ). AreOurs rules n new.told after) (sym latest) (subst (λ (t : List Said). AreOurs rules old.latest t after) (sym told) ours);
     waits = subst (λ (t : List Said). WaitOurs rules t after) (sym told) waits;
     of_call = let low = goes.of_call in omega (arith, low, incarnation);
+    since = let since = goes.since in omega (arith, since, now);
     timely = let timely = goes.timely in omega (arith, timely, latest, now);
+    fresh = λ serves. subst (λ (n : ℕ). IsFresh n after) (sym latest) (fresh_front old.latest kept c after now entries (goes.fresh serves));
     unlost = subst (λ (l : List Settled). HoldsUnlost (log_length (ledgers rules p (of_part p l))) (new.floors p) after) (sym trail) (subst (λ (f : List Floor). HoldsUnlost (log_length (ledgers rules p (of_part p old.trail))) f after) (sym floors) unlost);
     read = further_read (read_by rules old p) (read_by rules new p) after (same_reads rules p old new trail) read;
   }
@@ -172,7 +178,7 @@ module _ (rules : Rules) (p : ℕ) (old new : StoreView) (latest : new.latest �
         let both = rewound_ours rules old.latest old.told c joined.goes.ours joined.goes.waits rules.flows count begin marks after from lost rewound in
         let is = rewound.becomes in
         record {
-          goes = given_up_goes (ap (λ (v : CellView). v.number) is) (ap (λ (v : CellView). v.slot) is) (ap (λ (v : CellView). v.incarnation) is) (ap (λ (v : CellView). v.now) is) both.0 both.1
+          goes = given_up_goes rewound.kept (ap (λ (v : CellView). v.number) is) (ap (λ (v : CellView). v.slot) is) (ap (λ (v : CellView). v.incarnation) is) (ap (λ (v : CellView). v.now) is) (ap (λ (v : CellView). v.entries) is) both.0 both.1
               (rewound_unlost (log_length (ledgers rules p (of_part p old.trail))) (old.floors p) c joined.goes.unlost rules.flows count begin facts long marks after from lost rewound)
               (rewound_read (read_by rules old p) c joined.goes.read rules.flows count begin marks after from lost rewound) joined.goes;
           out =
@@ -190,7 +196,7 @@ module _ (rules : Rules) (p : ℕ) (old new : StoreView) (latest : new.latest �
         let both = reset_ours rules old.latest old.told c joined.goes.ours joined.goes.waits after from reset in
         let is = reset.becomes in
         record {
-          goes = given_up_goes (ap (λ (v : CellView). v.number) is) (ap (λ (v : CellView). v.slot) is) (ap (λ (v : CellView). v.incarnation) is) (ap (λ (v : CellView). v.now) is) both.0 both.1
+          goes = given_up_goes reset.kept (ap (λ (v : CellView). v.number) is) (ap (λ (v : CellView). v.slot) is) (ap (λ (v : CellView). v.incarnation) is) (ap (λ (v : CellView). v.now) is) (ap (λ (v : CellView). v.entries) is) both.0 both.1
               (reset_unlost (log_length (ledgers rules p (of_part p old.trail))) (old.floors p) c joined.goes.unlost rules.flows count begin facts long after from reset)
               (reset_read (read_by rules old p) c joined.goes.read after from reset) joined.goes;
           out =
@@ -212,7 +218,9 @@ kept_joined rules p s c after count begin marks kept joined =
         ours = both.0;
         waits = both.1;
         of_call = let low = goes.of_call in let same = ap (λ (v : CellView). v.incarnation) is in omega (arith, low, same);
+        since = let since = goes.since in let same = ap (λ (v : CellView). v.now) is in omega (arith, since, same);
         timely = let timely = goes.timely in let same = ap (λ (v : CellView). v.now) is in omega (arith, timely, same);
+        fresh = λ serves. fresh_same s.latest c after (ap (λ (v : CellView). v.now) is) (ap (λ (v : CellView). v.entries) is) (goes.fresh serves);
         unlost = subst (HoldsUnlost (log_length (ledgers rules p (of_part p s.trail))) (s.floors p)) (sym is) (record { unlost = goes.unlost.unlost; latest = goes.unlost.latest });
         read = kept_read (read_by rules s p) c goes.read rules.flows count begin marks after kept;
       };

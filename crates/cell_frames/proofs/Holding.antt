@@ -21,7 +21,7 @@ use Rattle.dura_value.specs.Reading.{◌>>=◌}
 use Rattle.flow_syntax.specs.Syntax.{Flows}
 use Rattle.hub_store.specs.Trail.{Said}
 use Rattle.log_items.specs.declared.items.Packet.{Packet}
-use Rattle.many_rules.specs.Rules.{Rules, IsOurs, rules_at, pairs_of}
+use Rattle.many_rules.specs.Rules.{Rules, IsFrom, IsOurs, rules_at, pairs_of}
 use Rattle.part_steps.specs.Enabled.{is_at, stamp_at}
 use Rattle.run_rules.specs.Rules.{Told, IsAsked, IsBy}
 use Rattle.run_rules.specs.Rules as one
@@ -47,6 +47,14 @@ own_by top (got source number message) stamp low is = tt
 own_by top (ended id task outcome) stamp low is = tt
 own_by top (trim reader number) stamp low is = tt
 
+own_from : (since now : ℕ) (item : Item) (stamp : ℕ) → since ≤ now → now ≤ stamp → is_at item stamp ≡ true → IsFrom since item
+own_from since now (ran from to at) stamp first high is = let same = eqb-true at stamp is in omega (arith, first, high, same)
+own_from since now (fired id task at) stamp first high is = let same = eqb-true at stamp is in omega (arith, first, high, same)
+own_from since now (took message) stamp first high is = tt
+own_from since now (got source number message) stamp first high is = tt
+own_from since now (ended id task outcome) stamp first high is = tt
+own_from since now (trim reader number) stamp first high is = tt
+
 own_was : (flows : Flows) (base : Partition) (item : Item) (stamp : ℕ) → is_at item stamp ≡ true → WasAsked flows base item
 own_was flows base (ran from to at) stamp is = tt
 own_was flows base (fired id task at) stamp is = tt
@@ -66,11 +74,24 @@ wait_by top None (fired id task stamp) may = absurd may
 wait_by top (Some activity) (ran from to stamp) may = absurd may
 wait_by top (Some activity) (fired id task stamp) may = absurd may
 
+wait_from : (since : ℕ) (activity : Option Activity) (item : Item) → MayWait (record { item = item; activity = activity }) → IsFrom since item
+wait_from since activity (took message) may = tt
+wait_from since activity (got source number message) may = tt
+wait_from since activity (ended id task outcome) may = tt
+wait_from since activity (trim reader number) may = tt
+wait_from since None (ran from to stamp) may = absurd may
+wait_from since None (fired id task stamp) may = absurd may
+wait_from since (Some activity) (ran from to stamp) may = absurd may
+wait_from since (Some activity) (fired id task stamp) may = absurd may
+
+waits_from : (since : ℕ) (waits : List Waiting) → All MayWait waits → All (λ w. IsFrom since w.item) waits
+waits_from since waits may = λ k d inside. wait_from since _ _ (may k d inside)
+
 waits_by : (top : ℕ) (waits : List Waiting) → All MayWait waits → All (λ w. IsBy top w.item) waits
 waits_by top waits may = λ k d inside. wait_by top _ _ (may k d inside)
 
--- an entry is filled with what was looked at, and with deliveries and timers of no later stamp than this
-filled_all : (P : Item → Type 0) (flows : Flows) (count now top : ℕ) (from : Partition) → from.stamp ≤ top → now ≤ top → ((item : Item) (stamp : ℕ) → stamp ≤ top → is_at item stamp ≡ true → P item)
+-- an entry is filled with what was looked at, and with deliveries and timers of no earlier and no later stamp than these
+filled_all : (P : Item → Type 0) (flows : Flows) (count now top : ℕ) (from : Partition) → from.stamp ≤ top → now ≤ top → ((item : Item) (stamp : ℕ) → now ≤ stamp → stamp ≤ top → is_at item stamp ≡ true → P item)
     → {looked : List Waiting} {items : List Item} {p : Partition} → Filled flows count now from looked items p → All (λ w. P w.item) looked → All P items
 filled_all P flows count now top from low by own nothing all = All-nil P
 filled_all P flows count now top from low by own (puts {looked} {items} {p} {q} before w may is_so is) all =
@@ -80,11 +101,11 @@ filled_all P flows count now top from low by own (lets_go {looked} {items} {p} b
 filled_all P flows count now top from low by own (goes_on {looked} {items} {p} {q} before item at is) all =
     let stamp : p.stamp ≤ max from.stamp now = filled_by flows count now before in
     let raised : stamp_at p now ≡ max p.stamp now = raised_max p now in
-    All-append P items (item ∷ []) (filled_all P flows count now top from low by own before all) (All-cons P item [] (own item (stamp_at p now) (omega (arith, stamp, raised, low, by)) at) (All-nil P))
+    All-append P items (item ∷ []) (filled_all P flows count now top from low by own before all) (All-cons P item [] (own item (stamp_at p now) (omega (arith, raised)) (omega (arith, stamp, raised, low, by)) at) (All-nil P))
 
 -- ---- the entry
 
-module _ (rules : Rules) (latest : ℕ) (told : List Said) (mode : Mode) (limit : ℕ) (old : CellView) (position : ℕ) (packets : List Packet) (facts : HasFacts rules.flows rules.count (rules.begin old.number) old) (first : rules.incarnations old.number ≤ old.incarnation) (now : old.now ≤ latest)
+module _ (rules : Rules) (latest : ℕ) (told : List Said) (mode : Mode) (limit : ℕ) (old : CellView) (position : ℕ) (packets : List Packet) (facts : HasFacts rules.flows rules.count (rules.begin old.number) old) (first : rules.incarnations old.number ≤ old.incarnation) (limit_is : limit ≤ rules.most) (since : rules.since ≤ old.now) (now : old.now ≤ latest)
     (ours : AreOurs rules latest told old) (waits : WaitOurs rules told old) (new : CellView) (makes : MakesEntry rules.flows rules.count (rules.begin old.number) mode limit old new position packets) where
   abbrev begin : Partition
   begin = rules.begin old.number
@@ -112,14 +133,21 @@ module _ (rules : Rules) (latest : ℕ) (told : List Said) (mode : Mode) (limit 
   rest_of : (P : Waiting → Type 0) → All P old.waits → All P makes.rest
   rest_of P all = all_back P makes.looked makes.rest (subst (All P) makes.left all)
 
-  all_items : (P : Item → Type 0) → ((item : Item) (stamp : ℕ) → stamp ≤ top → is_at item stamp ≡ true → P item) → All (λ w. P w.item) old.waits → All P makes.entry.items
+  all_items : (P : Item → Type 0) → ((item : Item) (stamp : ℕ) → old.now ≤ stamp → stamp ≤ top → is_at item stamp ≡ true → P item) → All (λ w. P w.item) old.waits → All P makes.entry.items
   all_items P own all = filled_all P rules.flows rules.count old.now top makes.begun low (omega (arith, now)) own makes.filled (looked_of (λ (w : Waiting). P w.item) all)
+
+  -- its deliveries and timers are of no earlier stamp than the cell's moment
+  pub one_fresh : (low : ℕ) → low ≤ old.now → All (IsFrom low) makes.entry.items
+  one_fresh low by = all_items (IsFrom low) (λ item stamp high top at. own_from low old.now item stamp by high at) (waits_from low old.waits facts.waits)
 
   one_more : IsOurs rules latest (pairs_of told) old.number makes.entry
   one_more = record {
     incarnation = let same = makes.made_by in omega (arith, first, same);
-    asked = λ serves. all_items (IsAsked (rules_at rules old.number) (pairs_of told)) (λ item stamp by at. own_asked (rules_at rules old.number) (pairs_of told) item stamp at) (waits.asked serves);
-    timely = all_items (IsBy top) (own_by top) (waits_by top old.waits facts.waits);
+    some = makes.some;
+    few = let few = makes.few in omega (arith, few, limit_is);
+    asked = λ serves. all_items (IsAsked (rules_at rules old.number) (pairs_of told)) (λ item stamp high by at. own_asked (rules_at rules old.number) (pairs_of told) item stamp at) (waits.asked serves);
+    since = one_fresh rules.since since;
+    timely = all_items (IsBy top) (λ item stamp high by at. own_by top item stamp by at) (waits_by top old.waits facts.waits);
   }
 
   abbrev Were : Partition → Entry → Type 0
@@ -133,7 +161,7 @@ module _ (rules : Rules) (latest : ℕ) (told : List Said) (mode : Mode) (limit 
     ours = All-append (IsOurs rules latest (pairs_of told) old.number) old.entries (makes.entry ∷ []) ours.ours (All-cons (IsOurs rules latest (pairs_of told) old.number) makes.entry [] one_more (All-nil (IsOurs rules latest (pairs_of told) old.number)));
     run = λ base is serves.
         All-append (Were base) old.entries (makes.entry ∷ []) (ours.run base is serves)
-        (All-cons (Were base) makes.entry [] (all_items (WasAsked rules.flows base) (λ item stamp by at. own_was rules.flows base item stamp at) (waits.run base is serves)) (All-nil (Were base)));
+        (All-cons (Were base) makes.entry [] (all_items (WasAsked rules.flows base) (λ item stamp high by at. own_was rules.flows base item stamp at) (waits.run base is serves)) (All-nil (Were base)));
   }
 
   still_wait : WaitOurs rules told after

@@ -5,6 +5,7 @@ pub mod Calls
 pub mod Cells
 pub mod Coming
 pub mod Filling
+pub mod Fresh
 pub mod Frames
 pub mod GivenUp
 pub mod Holding

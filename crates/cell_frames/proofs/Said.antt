@@ -48,7 +48,9 @@ said_joined rules s p c more joined =
           run = goes.waits.run;
         };
         of_call = goes.of_call;
+        since = goes.since;
         timely = goes.timely;
+        fresh = goes.fresh;
         unlost = goes.unlost;
         read = goes.read;
       };

@@ -3,6 +3,8 @@ use Rattle.std.proofs.Common.{◌≡◌, ◌≢◌, ◌≤◌, ℕ, ◌+◌, ◌
 use Rattle.std.proofs.lemmas.Bool.{eqb-true}
 use Rattle.std.proofs.lemmas.Bool.Decides.{nat_tests}
 use Rattle.std.proofs.lemmas.List.{length-map}
+use Rattle.cell_frames.proofs.Fresh.{fresh_same}
+use Rattle.cell_frames.specs.Fresh.{IsFresh}
 use Rattle.cell_frames.specs.Joined.{StoreView, GoesOnFrom, Joined, read_by}
 use Rattle.cell_frames.specs.Ours.{AreOurs, WaitOurs}
 use Rattle.cell_frames.specs.Unlost.{HoldsUnlost}
@@ -36,7 +38,9 @@ module _ (rules : Rules) (q : ℕ) (old new : StoreView) (stays : StaysFor rules
     ours = subst (λ (n : ℕ). AreOurs rules n new.told c) (sym stays.latest) (subst (λ (t : List Said). AreOurs rules old.latest t c) (sym stays.told) goes.ours);
     waits = subst (λ (t : List Said). WaitOurs rules t c) (sym stays.told) goes.waits;
     of_call = goes.of_call;
+    since = goes.since;
     timely = let timely = goes.timely in let same = stays.latest in omega (arith, timely, same);
+    fresh = λ serves. subst (λ (n : ℕ). IsFresh n c) (sym stays.latest) (goes.fresh serves);
     unlost = subst (λ (l : List Entry). HoldsUnlost (log_length (ledgers rules q l)) (new.floors q) c) (sym stays.mine) (subst (λ (f : List Floor). HoldsUnlost (log_length (ledgers rules q (of_part q old.trail))) f c) (sym stays.floors) goes.unlost);
     read = further_read (read_by rules old q) (read_by rules new q) c stays.reads goes.read;
   }
@@ -59,7 +63,9 @@ goes_out rules s p c n goes = record {
   ours = record { ours = goes.ours.ours; run = goes.ours.run };
   waits = record { asked = goes.waits.asked; run = goes.waits.run };
   of_call = goes.of_call;
+  since = goes.since;
   timely = goes.timely;
+  fresh = λ serves. fresh_same s.latest c (record c { out = n }) refl refl (goes.fresh serves);
   unlost = record { unlost = goes.unlost.unlost; latest = goes.unlost.latest };
   read = record { held = goes.read.held; waits = goes.read.waits };
 }

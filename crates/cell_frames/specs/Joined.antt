@@ -1,5 +1,6 @@
 -- What a cell and the store know of one partition.
-use Rattle.std.specs.Prelude.{◌≡◌, ◌<◌, ◌≤◌, ℕ, List, take, Option, Some, None}
+use Rattle.std.specs.Prelude.{◌≡◌, ◌<◌, ◌≤◌, ℕ, List, take, true, Option, Some, None}
+use Rattle.cell_frames.specs.Fresh.{IsFresh}
 use Rattle.cell_frames.specs.Ours.{AreOurs, WaitOurs}
 use Rattle.cell_frames.specs.Unlost.{HoldsUnlost}
 use Rattle.commit_gate.specs.Ledgers.{log_length}
@@ -48,14 +49,17 @@ pub record IsOut (s : StoreView) (partition : ℕ) (c : CellView) : Type 0 where
   pub goes : 0 < c.out → s.going partition ≡ Some (take c.out c.entries)
 
 -- The cell of a partition goes on from what the store has settled of it. What it holds and what waits there is the call's, is of no later
--- moment than the store heard of, and was not given up; and it lets go of no more than was read.
+-- moment than the store heard of, and was not given up; it was handed the moment at which the call began, or a later one, and where the call
+-- serves clients the latest, and holds nothing from before that; and it lets go of no more than was read.
 pub record GoesOnFrom (rules : Rules) (s : StoreView) (partition : ℕ) (c : CellView) : Type 0 where
   pub number : c.number ≡ partition
   pub mine : c.slot.mine ≡ of_part partition s.trail
   pub ours : AreOurs rules s.latest s.told c
   pub waits : WaitOurs rules s.told c
   pub of_call : rules.incarnations partition ≤ c.incarnation
+  pub since : rules.since ≤ c.now
   pub timely : c.now ≤ s.latest
+  pub fresh : rules.serves ≡ true → IsFresh s.latest c
   pub unlost : HoldsUnlost (log_length (ledgers rules partition (of_part partition s.trail))) (s.floors partition) c
   pub read : TrimsRead (read_by rules s partition) c
 

@@ -1,6 +1,7 @@
 pub mod Beginning
 pub mod Begun
 pub mod Fills
+pub mod Fresh
 pub mod Joined
 pub mod Judges
 pub mod LetGo

@@ -1,6 +1,6 @@
 //! Laws of what a cell does without the store: it stays joined to it. The functions do nothing.
 
-ghost use Rattle.std.specs.Prelude.{◌≡◌, ◌<◌, ◌≤◌, ℕ, max, true, List, ◌++◌};
+ghost use Rattle.std.specs.Prelude.{◌≡◌, ◌<◌, ◌≤◌, ℕ, max, true, List, [], ◌++◌};
 ghost use Rattle.std.specs.List.{Contains};
 ghost use Rattle.cell_frames.specs.Begun.{HasBegun};
 ghost use Rattle.cell_frames.specs.Joined.{StoreView, Joined, read_by};
@@ -34,7 +34,7 @@ pub fn what_turns_make_stays_joined()
     ensures turns { (rules : Rules) (s : StoreView) (partition : ℕ) (mode : Mode) (limit : ℕ)
         (old new : CellView) (position : ℕ) (packets : List Packet)
         → HasFacts rules.flows rules.count (rules.begin old.number) old
-        → Joined rules s partition old
+        → limit ≤ rules.most → Joined rules s partition old
         → MakesEntry rules.flows rules.count (rules.begin old.number) mode limit old new position
         packets
         → Joined rules s partition new }
@@ -49,7 +49,7 @@ pub fn what_turns_make_stays_joined()
     ensures turned { (rules : Rules) (s : StoreView) (partition : ℕ) (mode : Mode) (limit : ℕ)
         (old new : CellView) (turned : CellTurn)
         → HasFacts rules.flows rules.count (rules.begin old.number) old
-        → Joined rules s partition old
+        → limit ≤ rules.most → Joined rules s partition old
         → CellTurns rules.flows rules.count (rules.begin old.number) mode limit old turned new
         → Joined rules s partition new }
 {}
@@ -82,15 +82,18 @@ pub fn what_comes_stays_joined()
         → Trims marks ahead old count new → Joined rules s partition new }
 {}
 
-/// So it is once a moment was handed to it, where the store has heard of it; other cells stay joined to a store that hears of a later moment;
-/// and who owns a cell, and which tasks it gave out, joins it to nothing.
+/// So it is once a moment was handed to it, where the store has heard of it, and where a cell that serves clients holds nothing; other cells stay
+/// joined to a store that hears of a later moment, unless they serve clients; and who owns a cell, and which tasks it gave out, joins it to nothing.
 pub fn what_is_handed_in_stays_joined()
     ensures fires { (rules : Rules) (s : StoreView) (partition : ℕ) (old new : CellView)
-        (now later : ℕ) → now ≤ later → s.latest ≤ later → Joined rules s partition old
+        (now later : ℕ) → now ≤ later → s.latest ≤ later
+        → (rules.serves ≡ true → (old.entries ≡ []) × (later ≤ max s.latest now))
+        → Joined rules s partition old
         → new ≡ record old { now = max old.now now }
         → Joined rules (record s { latest = later }) partition new }
     ensures others { (rules : Rules) (s : StoreView) (partition : ℕ) (c : CellView) (later : ℕ)
-        → s.latest ≤ later → Joined rules s partition c
+        → s.latest ≤ later → (rules.serves ≡ true → later ≤ s.latest)
+        → Joined rules s partition c
         → Joined rules (record s { latest = later }) partition c }
     ensures owned { (rules : Rules) (s : StoreView) (partition : ℕ) (old new : CellView) (node : ℕ)
         → Joined rules s partition old → new ≡ record old { owner = node }

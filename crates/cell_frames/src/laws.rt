@@ -49,12 +49,14 @@ pub fn picked_frames_send_what_they_say()
 {}
 
 /// An entry that a turn makes is the call's, where what the cell holds and what waits there is, it makes entries in an incarnation of the
-/// call, and no later moment was handed to it than the clock gave; and what waits then is the call's still.
+/// call and of no more items than it may have, and no moment was handed to it from before the call began, or later than the clock gave; and
+/// what waits then is the call's still.
 pub fn turns_make_what_is_ours()
     ensures { (rules : Rules) (latest : ℕ) (told : List Said) (mode : Mode) (limit : ℕ)
         (old new : CellView) (position : ℕ) (packets : List Packet)
         → HasFacts rules.flows rules.count (rules.begin old.number) old
-        → rules.incarnations old.number ≤ old.incarnation → old.now ≤ latest
+        → rules.incarnations old.number ≤ old.incarnation → limit ≤ rules.most
+        → rules.since ≤ old.now → old.now ≤ latest
         → AreOurs rules latest told old → WaitOurs rules told old
         → MakesEntry rules.flows rules.count (rules.begin old.number) mode limit old new position packets
         → AreOurs rules latest told new × WaitOurs rules told new }

@@ -17,6 +17,7 @@ use Rattle.end_laws.proofs.Ends.{done, waiting}
 use Rattle.end_laws.proofs.Worlds.{world_after}
 use Rattle.end_laws.specs.Rested.{AnyFollows, AreAccepted, IsRested}
 use Rattle.end_laws.specs.Served.{IsWorldAfter}
+use Rattle.engine_rounds.specs.Heard.{Heard}
 use Rattle.engine_rounds.specs.Served.{IsServed, refusal_in}
 use Rattle.engine_rounds.specs.declared.driving.End.{End}
 use Rattle.engine_rounds.specs.declared.driving.End.TheVariants as ends
@@ -98,11 +99,11 @@ halt_served rules trail halts.SayFault = tt
 halt_served rules trail halts.ClockFault = tt
 halt_served rules trail halts.Memory = tt
 
-module _ (flows : Flows) (count digest segment most : ℕ) (requests : List Request) (latest : ℕ) (tells : Type 0) (old new : List Step) (trail : List Settled) (some : 0 < count) (asks : All IsRequest requests) (told : tells) (kept : List Commit)
+module _ (flows : Flows) (count digest segment batch most : ℕ) (requests : List Request) (heard : Heard) (tells : Type 0) (old new : List Step) (trail : List Settled) (some : 0 < count) (asks : All IsRequest requests) (told : tells) (kept : List Commit)
     (keeps : AreKept flows count digest (λ file. content_of file old) kept) where
-  module _ (came : Came) (port : Option (List Queue)) (served : IsServed flows count digest segment most requests latest tells old new trail came port) where
+  module _ (came : Came) (port : Option (List Queue)) (served : IsServed flows count digest segment batch most requests heard tells old new trail came port) where
     abbrev its : Rules
-    its = call_rules flows count served.begun served.run requests true
+    its = call_rules flows count served.begun served.run served.since batch requests true
 
     -- what was recovered and settled was accepted
     are_accepted : AreAccepted its trail
@@ -161,11 +162,11 @@ module _ (flows : Flows) (count digest segment most : ℕ) (requests : List Requ
       at_rest queues same (Full partition length_then) is = tt
       at_rest queues same (Spent partition number) is = tt
 
-  pub served_so : (came : Came) (port : Option (List Queue)) (cause : Cause) (served : IsServed flows count digest segment most requests latest tells old new trail came port) → refusal_in came ≡ None → WentBy came port cause
-      → HasServed (call_rules flows count served.begun served.run requests true) trail cause
+  pub served_so : (came : Came) (port : Option (List Queue)) (cause : Cause) (served : IsServed flows count digest segment batch most requests heard tells old new trail came port) → refusal_in came ≡ None → WentBy came port cause
+      → HasServed (call_rules flows count served.begun served.run served.since batch requests true) trail cause
   served_so (cames.Refused error) port cause served went by = absurd (cc went)
-  served_so (cames.Halted halt) port cause served went by = subst (HasServed (call_rules flows count served.begun served.run requests true) trail) (sym by) (halt_served _ trail halt)
-  served_so (cames.Ended (ends.Long labels)) port cause served went by = subst (HasServed (call_rules flows count served.begun served.run requests true) trail) (sym by) tt
+  served_so (cames.Halted halt) port cause served went by = subst (HasServed (call_rules flows count served.begun served.run served.since batch requests true) trail) (sym by) (halt_served _ trail halt)
+  served_so (cames.Ended (ends.Long labels)) port cause served went by = subst (HasServed (call_rules flows count served.begun served.run served.since batch requests true) trail) (sym by) tt
   served_so (cames.Ended ends.Rest) None cause served went by = absurd (let wrong = served.on.port_is in cc wrong)
   served_so (cames.Ended ends.Rest) (Some queues) cause served went by =
       let ended = served.on.ends ends.Rest refl in

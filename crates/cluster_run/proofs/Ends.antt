@@ -5,6 +5,7 @@ use Rattle.client_port.specs.Ports.{Queue}
 use Rattle.cluster_run.specs.Causes.{IsRefusal, IsRestOrMemory, WentBy, cause_of_halt, cause_of_open, cause_of_recovery}
 use Rattle.cluster_run.specs.Comes.{ComesTo, KeepsFiles}
 use Rattle.command_words.specs.declared.words.RunOptions.{RunOptions}
+use Rattle.engine_rounds.specs.Heard.{Heard}
 use Rattle.engine_rounds.specs.Served.{refusal_in}
 use Rattle.engine_rounds.specs.declared.driving.End.TheVariants as ends
 use Rattle.engine_rounds.specs.declared.serving.Came.{Came}
@@ -269,8 +270,8 @@ same_keeps count old new ClockFault same = tt
 same_keeps count old new Memory same = tt
 
 -- no run ends for its words
-pub never_usage : (options : RunOptions) (files : ℕ → List ℕ) (latest : ℕ) (tells : Type 0) (old new : List Step) (trail : List Settled) → ComesTo options files latest tells old new trail Usage → ⊥
-never_usage options files latest tells old new trail comes =
+pub never_usage : (options : RunOptions) (files : ℕ → List ℕ) (heard : Heard) (tells : Type 0) (old new : List Step) (trail : List Settled) → ComesTo options files heard tells old new trail Usage → ⊥
+never_usage options files heard tells old new trail comes =
     elim comes [
       | inl read ↦ read.why
       | inr further ↦ elim further [

@@ -8,6 +8,7 @@ use Rattle.cluster_run.specs.Causes.{WentBy}
 use Rattle.cluster_run.proofs.Done.{served_so}
 use Rattle.cluster_run.specs.Comes.{LeavesLogs, NotOpened, WasServed}
 use Rattle.command_words.specs.declared.words.RunOptions.{RunOptions}
+use Rattle.engine_rounds.specs.Heard.{Heard}
 use Rattle.engine_rounds.specs.Served.{IsServed, refusal_in}
 use Rattle.engine_rounds.specs.declared.serving.Came.{Came}
 use Rattle.engine_rounds.specs.declared.serving.Came.TheVariants as cames
@@ -43,11 +44,11 @@ module _ (options : RunOptions) (job : Job) (flows : Flows) (count digest : ℕ)
   back : (P : Flows → ℕ → ℕ → Type 0) → P job.flows options.partitions job.digest → P flows count digest
   back P p = moved P job.flows flows options.partitions count job.digest digest (sym flows_are) (sym count_is) (sym digest_is) p
 
-  pub came_to : (segment steps latest : ℕ) (tells : Type 0) (came : Came) (port : Option (List Queue)) (cause : Cause) → 0 < options.partitions → All IsRequest job.requests → segment ≡ options.segment → steps ≡ options.steps → WentBy came port cause → Asks options.partitions options.nodes (λ file. content_of file old) job
+  pub came_to : (segment batch steps : ℕ) (heard : Heard) (tells : Type 0) (came : Came) (port : Option (List Queue)) (cause : Cause) → 0 < options.partitions → All IsRequest job.requests → segment ≡ options.segment → batch ≡ options.batch → steps ≡ options.steps → WentBy came port cause → Asks options.partitions options.nodes (λ file. content_of file old) job
       → (refusal_in came ≢ None → trail ≡ []) → (refusal_in came ≢ None → OpensOnly flows count digest old new) → IfSome (refusal_in came) (WhyUnopened flows count digest (λ file. content_of file old) job.requests) → IfSome (refusal_in came) (OnlySynced count old new)
-      → (refusal_in came ≡ None → IsServed flows count digest segment steps job.requests latest tells old new trail came port)
-      → NotOpened options (λ file. content_of file old) old new trail cause ⊎ WasServed options (λ file. content_of file old) latest tells old new trail cause
-  came_to segment steps latest tells (cames.Refused error) port cause some asked segment_is steps_are by asks nothing opening why synced served =
+      → (refusal_in came ≡ None → IsServed flows count digest segment batch steps job.requests heard tells old new trail came port)
+      → NotOpened options (λ file. content_of file old) old new trail cause ⊎ WasServed options (λ file. content_of file old) heard tells old new trail cause
+  came_to segment batch steps heard tells (cames.Refused error) port cause some asked segment_is batch_is steps_are by asks nothing opening why synced served =
       inl (record {
         job = job;
         asks = asks;
@@ -58,11 +59,12 @@ module _ (options : RunOptions) (job : Job) (flows : Flows) (count digest : ℕ)
         opening = its (λ f n d. OpensOnly f n d old new) (opening (some_refusal error));
         nothing = nothing (some_refusal error);
       })
-  came_to segment steps latest tells (cames.Halted halt) port cause some asked segment_is steps_are by asks nothing opening why synced served =
-      let now : IsServed job.flows options.partitions job.digest options.segment options.steps job.requests latest tells old new trail (cames.Halted halt) port =
-      subst (λ (s : ℕ). IsServed job.flows options.partitions job.digest s options.steps job.requests latest tells old new trail (cames.Halted halt) port) segment_is
-      (subst (λ (s : ℕ). IsServed job.flows options.partitions job.digest segment s job.requests latest tells old new trail (cames.Halted halt) port) steps_are
-      (its (λ f n d. IsServed f n d segment steps job.requests latest tells old new trail (cames.Halted halt) port) (served refl))) in
+  came_to segment batch steps heard tells (cames.Halted halt) port cause some asked segment_is batch_is steps_are by asks nothing opening why synced served =
+      let now : IsServed job.flows options.partitions job.digest options.segment options.batch options.steps job.requests heard tells old new trail (cames.Halted halt) port =
+      subst (λ (s : ℕ). IsServed job.flows options.partitions job.digest s options.batch options.steps job.requests heard tells old new trail (cames.Halted halt) port) segment_is
+      (subst (λ (s : ℕ). IsServed job.flows options.partitions job.digest segment s options.steps job.requests heard tells old new trail (cames.Halted halt) port) batch_is
+      (subst (λ (s : ℕ). IsServed job.flows options.partitions job.digest segment batch s job.requests heard tells old new trail (cames.Halted halt) port) steps_are
+      (its (λ f n d. IsServed f n d segment batch steps job.requests heard tells old new trail (cames.Halted halt) port) (served refl)))) in
       inr (record {
         job = job;
         asks = asks;
@@ -71,13 +73,14 @@ module _ (options : RunOptions) (job : Job) (flows : Flows) (count digest : ℕ)
         went = refl;
         served = now;
         cause_by = by;
-        serves = λ told kept keeps. served_so job.flows options.partitions job.digest options.segment options.steps job.requests latest tells old new trail some asked told kept keeps (cames.Halted halt) port cause now refl by;
+        serves = λ told kept keeps. served_so job.flows options.partitions job.digest options.segment options.batch options.steps job.requests heard tells old new trail some asked told kept keeps (cames.Halted halt) port cause now refl by;
       })
-  came_to segment steps latest tells (cames.Ended end) port cause some asked segment_is steps_are by asks nothing opening why synced served =
-      let now : IsServed job.flows options.partitions job.digest options.segment options.steps job.requests latest tells old new trail (cames.Ended end) port =
-      subst (λ (s : ℕ). IsServed job.flows options.partitions job.digest s options.steps job.requests latest tells old new trail (cames.Ended end) port) segment_is
-      (subst (λ (s : ℕ). IsServed job.flows options.partitions job.digest segment s job.requests latest tells old new trail (cames.Ended end) port) steps_are
-      (its (λ f n d. IsServed f n d segment steps job.requests latest tells old new trail (cames.Ended end) port) (served refl))) in
+  came_to segment batch steps heard tells (cames.Ended end) port cause some asked segment_is batch_is steps_are by asks nothing opening why synced served =
+      let now : IsServed job.flows options.partitions job.digest options.segment options.batch options.steps job.requests heard tells old new trail (cames.Ended end) port =
+      subst (λ (s : ℕ). IsServed job.flows options.partitions job.digest s options.batch options.steps job.requests heard tells old new trail (cames.Ended end) port) segment_is
+      (subst (λ (s : ℕ). IsServed job.flows options.partitions job.digest segment s options.steps job.requests heard tells old new trail (cames.Ended end) port) batch_is
+      (subst (λ (s : ℕ). IsServed job.flows options.partitions job.digest segment batch s job.requests heard tells old new trail (cames.Ended end) port) steps_are
+      (its (λ f n d. IsServed f n d segment batch steps job.requests heard tells old new trail (cames.Ended end) port) (served refl)))) in
       inr (record {
         job = job;
         asks = asks;
@@ -86,7 +89,7 @@ module _ (options : RunOptions) (job : Job) (flows : Flows) (count digest : ℕ)
         went = refl;
         served = now;
         cause_by = by;
-        serves = λ told kept keeps. served_so job.flows options.partitions job.digest options.segment options.steps job.requests latest tells old new trail some asked told kept keeps (cames.Ended end) port cause now refl by;
+        serves = λ told kept keeps. served_so job.flows options.partitions job.digest options.segment options.batch options.steps job.requests heard tells old new trail some asked told kept keeps (cames.Ended end) port cause now refl by;
       })
 
   -- files that are to be refused are left

@@ -8,6 +8,7 @@ use Rattle.cluster_run.specs.Faults.{Faults, FaultsRise}
 use Rattle.cluster_run.proofs.Ends.{IsLateCause, input_no_clock, input_no_say, late_causes}
 use Rattle.cluster_run.proofs.Serves.{same_job}
 use Rattle.command_words.specs.declared.words.RunOptions.{RunOptions}
+use Rattle.engine_rounds.specs.Heard.{Heard}
 use Rattle.hub_store.specs.Trail.{Settled}
 use Rattle.open_laws.proofs.Opens.{may_meet}
 use Rattle.open_laws.specs.Standing.{MayMeet, StandFor}
@@ -126,9 +127,9 @@ opened_sound options files old new trail cause opened fit none =
 -- ---- runs
 
 -- of a run by what it came to
-pub run_sound : (options : RunOptions) (files : ℕ → List ℕ) (latest : ℕ) (tells : Type 0) (old new : List Step) (trail : List Settled) (cause : Cause) (before after : Faults) → ComesTo options files latest tells old new trail cause → FaultsRise cause before after → AreFit options files
+pub run_sound : (options : RunOptions) (files : ℕ → List ℕ) (heard : Heard) (tells : Type 0) (old new : List Step) (trail : List Settled) (cause : Cause) (before after : Faults) → ComesTo options files heard tells old new trail cause → FaultsRise cause before after → AreFit options files
     → NoneRose before after → IsSound cause
-run_sound options files latest tells old new trail cause before after comes rise fit none =
+run_sound options files heard tells old new trail cause before after comes rise fit none =
     let no = no_fault cause before after rise none in
     elim comes [
       | inl read ↦ input_sound (refusal_of options.partitions options.nodes files) fit.asks.accepted cause read.why no

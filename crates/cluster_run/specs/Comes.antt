@@ -6,6 +6,7 @@ use Rattle.cluster_run.specs.Asked.{Job, Asks}
 use Rattle.cluster_run.specs.Causes.{WentBy, cause_of_open}
 use Rattle.cluster_run.specs.Served.{HasServed}
 use Rattle.command_words.specs.declared.words.RunOptions.{RunOptions}
+use Rattle.engine_rounds.specs.Heard.{Heard}
 use Rattle.engine_rounds.specs.Served.{IsServed, refusal_in}
 use Rattle.engine_rounds.specs.declared.serving.Came.{Came}
 use Rattle.hub_store.specs.Trail.{Settled}
@@ -41,20 +42,20 @@ pub record NotOpened (options : RunOptions) (files : ℕ → List ℕ) (old new 
 
 -- The clients were served, and it ended for this. Where nothing is possible any more, what the files kept and what was settled have served
 -- the requests, or all but those that wait.
-pub record WasServed (options : RunOptions) (files : ℕ → List ℕ) (latest : ℕ) (tells : Type 0) (old new : List Step) (trail : List Settled) (cause : Cause) : Type 0 where
+pub record WasServed (options : RunOptions) (files : ℕ → List ℕ) (heard : Heard) (tells : Type 0) (old new : List Step) (trail : List Settled) (cause : Cause) : Type 0 where
   pub job : Job
   pub asks : Asks options.partitions options.nodes files job
   pub came : Came
   pub port : Option (List Queue)
   pub went : refusal_in came ≡ None
-  pub served : IsServed job.flows options.partitions job.digest options.segment options.steps job.requests latest tells old new trail came port
+  pub served : IsServed job.flows options.partitions job.digest options.segment options.batch options.steps job.requests heard tells old new trail came port
   pub cause_by : WentBy came port cause
   pub serves : tells → (kept : List Commit) → AreKept job.flows options.partitions job.digest files kept
-      → HasServed (call_rules job.flows options.partitions served.begun served.run job.requests true) trail cause
+      → HasServed (call_rules job.flows options.partitions served.begun served.run served.since options.batch job.requests true) trail cause
 
 -- what a run with these options comes to, by what its files held at the start
-abbrev pub ComesTo : RunOptions → (files : ℕ → List ℕ) → (latest : ℕ) → (tells : Type 0) → (old new : List Step) → List Settled → Cause → Type 0
-ComesTo options files latest tells old new trail cause = NotRead options files old new trail cause ⊎ (NotOpened options files old new trail cause ⊎ WasServed options files latest tells old new trail cause)
+abbrev pub ComesTo : RunOptions → (files : ℕ → List ℕ) → Heard → (tells : Type 0) → (old new : List Step) → List Settled → Cause → Type 0
+ComesTo options files heard tells old new trail cause = NotRead options files old new trail cause ⊎ (NotOpened options files old new trail cause ⊎ WasServed options files heard tells old new trail cause)
 
 -- the files are to be refused
 pub data AreUnfit (options : RunOptions) (files : ℕ → List ℕ) : Type 0 where

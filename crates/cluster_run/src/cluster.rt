@@ -6,6 +6,7 @@ ghost use Rattle.cluster_run.specs.Causes.{IsRefusal};
 ghost use Rattle.cluster_run.specs.Comes.{AreUnfit, ComesTo, KeepsFiles, LeavesLogs, NotOpened, WasServed};
 ghost use Rattle.cluster_run.specs.Complete.{AreFit, IsSound, NoneRose};
 ghost use Rattle.cluster_run.specs.Faults.{FaultsRise, faults_of};
+ghost use Rattle.engine_rounds.specs.Heard.{heard_of};
 ghost use Rattle.open_logs.specs.Spent.{AreRefused};
 ghost use Rattle.run_causes.specs.Causes.{status_of};
 ghost use Rattle.site_model.specs.History.{content_of};
@@ -84,7 +85,8 @@ fn run_input<V: Site, C: Clock, A: Activities>(
         → Asks options.partitions options.nodes (λ file. content_of file (V.history site)) (job_of input)
         → NotOpened options (λ file. content_of file (V.history site)) (V.history site)
         (V.history result.site) result.trail result.cause
-        ⊎ WasServed options (λ file. content_of file (V.history site)) (C.latest result.clock)
+        ⊎ WasServed options (λ file. content_of file (V.history site))
+        (heard_of (C.given clock) (C.given result.clock) (C.latest result.clock))
         (V.tells result.site) (V.history site) (V.history result.site) result.trail result.cause }
     ensures clean { V.tells result.site → AreRefused (job_of input).flows options.partitions
         (job_of input).digest (λ file. content_of file (V.history site)) (job_of input).requests
@@ -133,7 +135,8 @@ pub fn run_cluster<V: Site, C: Clock, A: Activities>(
     ensures status { result.status ≡ status_of result.cause }
     ensures no_usage { result.cause ≢ Cause.Usage }
     ensures comes { V.tells result.site
-        → ComesTo options (λ file. content_of file (V.history site)) (C.latest result.clock)
+        → ComesTo options (λ file. content_of file (V.history site))
+        (heard_of (C.given clock) (C.given result.clock) (C.latest result.clock))
         (V.tells result.site) (V.history site) (V.history result.site) result.trail result.cause }
     ensures unfit { V.tells result.site
         → AreUnfit options (λ file. content_of file (V.history site))

@@ -1,4 +1,5 @@
 pub mod Adding
 mod Filled
+mod Given
 mod Heard
 mod Opens

@@ -1,7 +1,7 @@
 -- A call begins to serve clients.
 use Rattle.std.proofs.Common.{◌++◌, ◌≡◌, ◌≤◌, ◌<◌, ℕ, List, Option, Some, None, Result, Ok, Err, refl, sym, ap, subst, length}
 use Rattle.std.specs.Result.{is_err}
-use Rattle.std.specs.Prelude.{IfSome, OnOk, false}
+use Rattle.std.specs.Prelude.{IfSome, OnOk, false, true}
 use Rattle.call_begins.specs.Begins.{IsUntouched}
 use Rattle.cell_frames.specs.Begun.{HasBegun}
 use Rattle.cell_frames.specs.Joined.{view_of}
@@ -37,10 +37,10 @@ use Rattle.spec_cell.specs.Views.{CellView}
 use Rattle.world_steps.specs.Cells.{AllJoined}
 
 -- nothing was settled or said, and the port is new
-pub first_serves : {V L : Type 0} {G : sites.Ghosts V} {K : starts.Ghosts (gated_types.Gated L)} (o : Origin) (rules : Rules) (store : GatedStore V L G K) (cells : List CellView) (queues : List Queue) → HasBegun o rules → 0 < rules.count → rules.count ≤ 32 → length cells ≡ rules.count
+pub first_serves : {V L : Type 0} {G : sites.Ghosts V} {K : starts.Ghosts (gated_types.Gated L)} (o : Origin) (rules : Rules) (store : GatedStore V L G K) (cells : List CellView) (queues : List Queue) → HasBegun o rules → rules.serves ≡ true → 0 < rules.count → rules.count ≤ 32 → length cells ≡ rules.count
     → Keeps o rules store → IsUntouched rules.count store → AllJoined rules (view_of store) cells → queues ≡ queues_of rules.requests → IsServing o rules store cells queues
-first_serves o rules store cells queues begun some few many kept untouched joined port = record {
-  running = record { begun = begun; some = some; few = few; many = many; kept = kept; still = untouched.going; whole = untouched.whole; joined = joined };
+first_serves o rules store cells queues begun serves some few many kept untouched joined port = record {
+  running = record { begun = begun; serves = serves; some = some; few = few; many = many; kept = kept; still = untouched.going; whole = untouched.whole; joined = joined };
   said = said_first rules.requests _ queues untouched.told port;
 }
 

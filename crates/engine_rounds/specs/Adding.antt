@@ -1,5 +1,5 @@
 -- What pumping adds.
-use Rattle.std.specs.Prelude.{◌≡◌, ◌<◌, ℕ, ◌+◌, true, List, Option, Some, None, slice_get, unwrap_or}
+use Rattle.std.specs.Prelude.{◌≡◌, ◌<◌, ℕ, ◌+◌, true, List, Option, Some, None, slice_get}
 use Rattle.engine_rounds.specs.declared.pumping.Pumped.{Pumped}
 use Rattle.engine_rounds.specs.declared.pumping.Pumped.TheVariants as pumped
 use Rattle.hub_store.specs.Trail.{Settled}
@@ -7,9 +7,9 @@ use Rattle.node_core.specs.Stops.{has_stopped}
 use Rattle.node_core.specs.declared.crew.Crew.{Crew}
 use Rattle.round_steps.specs.Labels.{settled_labels}
 
--- a partition is on a node that has stopped by so many turns of the store
+-- one of the partitions is on a node that has stopped by so many turns of the store
 abbrev pub HasLostNode : Crew → (turns : ℕ) → Type 0
-HasLostNode crew turns = (partition : ℕ) × (has_stopped crew.plan.stops.items (unwrap_or (slice_get crew.owners.items partition) 0) turns ≡ true)
+HasLostNode crew turns = (partition node : ℕ) × (slice_get crew.owners.items partition ≡ Some node) × (has_stopped crew.plan.stops.items node turns ≡ true)
 
 -- so many labels more were settled, at least one; or none, as nothing is possible any more, or a node stopped
 abbrev pub Adds : (before now : List Settled) → Pumped → Type 0

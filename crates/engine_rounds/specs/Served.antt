@@ -7,6 +7,7 @@ use Rattle.client_port.specs.Ports.{Queue}
 use Rattle.commit_gate.specs.Ledgers.{log_length}
 use Rattle.engine_rounds.specs.Ends.{EndsAs}
 use Rattle.engine_rounds.specs.Halts.{HaltsFor}
+use Rattle.engine_rounds.specs.Heard.{Heard, BeginsAt}
 use Rattle.engine_rounds.specs.declared.driving.End.{End}
 use Rattle.engine_rounds.specs.declared.serving.Came.{Came}
 use Rattle.engine_rounds.specs.declared.serving.Came.TheVariants as cames
@@ -72,22 +73,25 @@ pub record SaysOn (rules : Rules) (o : Origin) (limit most latest : ℕ) (tells 
   pub halts : (halt : Halt) → came ≡ cames.Halted halt → HaltsFor rules o limit latest tells now trail told halt
   pub ends : (end : End) → came ≡ cames.Ended end → HasSaid rules.requests told queues × EndsAs rules most trail queues end
 
--- A call began with what was recovered, among which nothing clashes with these requests, and served them. Each entry that was settled stands behind all that it depends on. Where the
+-- A call began at the moment that the clock gave first, with what was recovered, among which nothing clashes with these requests, and served
+-- them, with at most so many items an entry. Each entry that was settled stands behind all that it depends on. Where the
 -- site tells, it began with what the files kept; a crash left what it could have left before, or files that keep that, as long as logs were
 -- opened, and nothing was settled; and from then on, up to the end, by which all of it was settled, files that stand for a run that goes on
 -- from what the files kept, in whatever order that was accepted; and each log that was written ended below this length.
-pub record IsServed (flows : Flows) (count digest segment most : ℕ) (requests : List Request) (latest : ℕ) (tells : Type 0) (old new : List Step) (trail : List Settled) (came : Came) (port : Option (List Queue)) : Type 0 where
+pub record IsServed (flows : Flows) (count digest segment batch most : ℕ) (requests : List Request) (heard : Heard) (tells : Type 0) (old new : List Step) (trail : List Settled) (came : Came) (port : Option (List Queue)) : Type 0 where
   pub begun : Begun
   pub run : List Commit
   pub steps : List Step
+  pub since : ℕ
+  pub begins : BeginsAt (call_rules flows count begun run since batch requests true) most heard trail came since
   pub made : MadeBy flows count begun run
   pub no_clash : NoClash (taken_in count (parts_in begun.states.items)) requests
-  pub causal : Causal (λ partition. ledgers (call_rules flows count begun run requests true) partition []) (λ settled partition. log_length (ledgers_at (ledgers (call_rules flows count begun run requests true)) settled partition)) trail
+  pub causal : Causal (λ partition. ledgers (call_rules flows count begun run since batch requests true) partition []) (λ settled partition. log_length (ledgers_at (ledgers (call_rules flows count begun run since batch requests true)) settled partition)) trail
   pub theirs : tells → AreTheirs count digest (λ file. content_of file old) run
   pub opening : tells → OpensOnly flows count digest old steps
   pub further : tells → Always (λ moment. Unit {0}) steps new
   pub nothing : tells → (moment : ℕ) → moment < length steps → settled_at moment trail ≡ []
   pub by_the_end : tells → settled_at (length new) trail ≡ trail
-  pub crash : tells → (kept : List Commit) → AreKept flows count digest (λ file. content_of file old) kept → LeavesRuns (call_rules flows count begun kept requests true) latest digest (origin_of count digest steps begun) new trail
+  pub crash : tells → (kept : List Commit) → AreKept flows count digest (λ file. content_of file old) kept → LeavesRuns (call_rules flows count begun kept since batch requests true) heard.latest digest (origin_of count digest steps begun) new trail
   pub short : tells → (partition : ℕ) → partition < count → IsShort segment (of_part partition trail) (content_of ((origin_of count digest steps begun).logs partition).file new)
-  pub on : SaysOn (call_rules flows count begun run requests true) (origin_of count digest steps begun) segment most latest tells new trail came port
+  pub on : SaysOn (call_rules flows count begun run since batch requests true) (origin_of count digest steps begun) segment most heard.latest tells new trail came port

@@ -1,37 +1,31 @@
 //! Round after round, until nothing is possible any more.
 
-ghost use Rattle.std.specs.Prelude.{◌≡◌, ◌≢◌, ◌≤◌, ◌<◌, false, length, Err, IfErr, IfOk, IfSome, OnOk};
-ghost use Rattle.cell_frames.specs.Joined.{view_of};
+ghost use Rattle.std.specs.Prelude.{◌≡◌, ◌≢◌, ◌≤◌, ◌<◌, ◌+◌, false, Ok, Err, IfErr, IfOk, IfSome, OnOk};
 ghost use Rattle.client_port.specs.Clients.{clients_of};
 ghost use Rattle.engine_rounds.specs.Ends.{EndsAs};
+ghost use Rattle.engine_rounds.specs.Heard.{ByClock};
 ghost use Rattle.hub_store.specs.Changes.{trail_in};
+ghost use Rattle.engine_rounds.specs.Held.{NoneHeld};
+ghost use Rattle.round_steps.specs.Labels.{IsCounted, settled_labels};
 ghost use Rattle.round_steps.specs.Serving.{GoesOn, IsServing};
 ghost use Rattle.node_core.specs.Halts.{IsPast, RisesFor};
 ghost use Rattle.node_core.specs.Running.{IsRunning, Keeps};
 ghost use Rattle.site_model.specs.Calls.{HasRisen};
-ghost use Rattle.world_steps.specs.Known.{AreMarksOf};
 
-use crate::pumping::{Pumped, hear, pump};
+use crate::pumping::{Pumped, hear, holds_some, pump};
 use activity_table::Activities;
 use cell_frames::Seat;
 use cell_steps::Mode;
 use dura_value::Name;
 use gated_store::GatedStore;
 use many_rules::{ByRules, Picked};
-use node_core::{Halt, judge_all, send};
+use node_core::Halt;
 use part_rows::Reactions;
 use rest_check::is_at_rest;
-use round_steps::{
-    Course, Pace, count_labels, follow_plan, own_all, round, serve_all, serve_reached,
-};
+use round_steps::{Course, Pace, follow, own_all, round, serve_all, serve_reached, tidy};
 use site_model::{Clock, Site};
 use spec_cell::Cell;
-use spec_tracker::Marks;
-use std::alloc::{AllocError, Global};
-use world_steps::{marks_now, resend_at, trim_at};
-
-/// More passes of judging than there are partitions.
-const MOST_PASSES: u32 = 33;
+use std::alloc::Global;
 
 /// Where rounds end.
 #[derive(Clone, Copy, Drop, PartialEq, Eq)]
@@ -42,207 +36,41 @@ pub enum End {
     Long(u64),
 }
 
-/// What was read of streams by these marks may be let go of.
-fn trim_all<V: Site, M: Picked>(
-    alloc: Global,
-    store: &GatedStore<V, ByRules<M>>,
-    cells: &mut Vec<Cell<Seat<M>>>,
-    marks: &Marks,
-) -> Result<(), AllocError>
-    requires running { IsRunning M.origin M.rules store.now cells.old.items }
-    requires marks { AreMarksOf M.rules (view_of store.now) marks.now }
-    ensures running { OnOk result (IsRunning M.origin M.rules store.now cells.new.items) }
-{
-    let count = cells.len() as u32;
-    'parts: for part in 0..count {
-        trim_at(alloc, cells, part, marks)?;
-    }
-    Ok(())
-}
-
-/// What was read of streams by what is settled may be let go of.
-fn trim_now<V: Site, M: Picked>(
-    alloc: Global,
+/// The clock is read, where cells hold nothing and fewer labels were settled than are enough, and all hear of its moment.
+fn hear_clock<V: Site, M: Picked, C: Clock>(
+    clock: &mut C,
     store: &mut GatedStore<V, ByRules<M>>,
     cells: &mut Vec<Cell<Seat<M>>>,
-    course: &mut Course,
+    course: &Course,
+    steps: u64,
 ) -> Result<(), Halt>
-    requires serving { IsServing M.origin M.rules store.old cells.old.items course.old.port }
-    ensures goes { GoesOn store.old store.new }
+    requires serving { IsServing M.origin M.rules store.old cells.old.items course.now.port }
+    requires none { NoneHeld cells.old.items }
+    requires enough { settled_labels (trail_in store.old.logs) < steps }
+    ensures goes { GoesOn M.rules store.old store.new }
     ensures kept { Keeps M.origin M.rules store.new }
     ensures whole { result ≢ Err Halt.SayFault → store.new.logs.cut ≡ false }
-    ensures serving { OnOk result (IsServing M.origin M.rules store.new cells.new.items course.new.port) }
+    ensures serving { OnOk result (IsServing M.origin M.rules store.new cells.new.items course.now.port) }
     ensures rises { IfErr result (RisesFor (V.disk_faults store.old.logs.site)
         (V.say_faults store.old.logs.site) (V.disk_faults store.new.logs.site)
         (V.say_faults store.new.logs.site)) }
     ensures past { IfErr result (IsPast M.rules store.new) }
-    ensures clock { result ≢ Err Halt.ClockFault }
-    ensures latest { store.new.logs.latest ≡ store.old.logs.latest }
+    ensures clock { result ≡ Err Halt.ClockFault
+        → HasRisen (C.clock_faults clock.old) (C.clock_faults clock.new) }
+    ensures ticks { C.clock_faults clock.old ≤ C.clock_faults clock.new }
+    ensures latest { C.latest clock.old ≤ C.latest clock.new }
+    ensures heard { store.old.logs.latest ≤ C.latest clock.old
+        → store.new.logs.latest ≤ C.latest clock.new }
+    ensures by_clock { ByClock M.rules steps (C.given clock.old) store.old (C.given clock.new) store.new }
 {
-    let count = cells.len() as u32;
-    let Ok(marks) = marks_now(alloc, store, count) else {
-        return Err(Halt::Memory);
-    };
-    let trimmed = trim_all(alloc, store, cells, &marks);
-    drop(marks);
-    match trimmed {
-        Ok(()) => Ok(()),
-        Err(_) => Err(Halt::Memory),
-    }
-}
-
-/// What is left of a partition's streams goes on its way again.
-fn resend_part<M: Picked>(
-    alloc: Global,
-    cells: &[Cell<Seat<M>>],
-    course: &mut Course,
-    part: u32,
-    mode: Mode,
-) -> Result<(), AllocError>
-    requires place { part < length cells.now }
-    ensures port { course.new.port ≡ course.old.port }
-{
-    let packets = resend_at(alloc, cells, part, mode)?;
-    if !send(&mut course.transport, packets)? {
-        course.lacking = true;
-    }
-    Ok(())
-}
-
-/// What others may lack goes on its way again.
-fn resend_all<M: Picked>(
-    alloc: Global,
-    cells: &[Cell<Seat<M>>],
-    course: &mut Course,
-    mode: Mode,
-) -> Result<(), AllocError>
-    requires few { length cells.now ≤ 32 }
-    ensures port { course.new.port ≡ course.old.port }
-{
-    course.lacking = false;
-    let count = cells.len() as u32;
-    'parts: for part in 0..count {
-        resend_part(alloc, cells, course, part, mode)?;
-    }
-    Ok(())
-}
-
-/// What was read of streams may be let go of, and what others may lack goes on its way again.
-fn tidy<V: Site, M: Picked>(
-    alloc: Global,
-    store: &mut GatedStore<V, ByRules<M>>,
-    cells: &mut Vec<Cell<Seat<M>>>,
-    course: &mut Course,
-    mode: Mode,
-) -> Result<(), Halt>
-    requires serving { IsServing M.origin M.rules store.old cells.old.items course.old.port }
-    ensures goes { GoesOn store.old store.new }
-    ensures kept { Keeps M.origin M.rules store.new }
-    ensures whole { result ≢ Err Halt.SayFault → store.new.logs.cut ≡ false }
-    ensures serving { OnOk result (IsServing M.origin M.rules store.new cells.new.items course.new.port) }
-    ensures rises { IfErr result (RisesFor (V.disk_faults store.old.logs.site)
-        (V.say_faults store.old.logs.site) (V.disk_faults store.new.logs.site)
-        (V.say_faults store.new.logs.site)) }
-    ensures past { IfErr result (IsPast M.rules store.new) }
-    ensures clock { result ≢ Err Halt.ClockFault }
-    ensures latest { store.new.logs.latest ≡ store.old.logs.latest }
-{
-    if cells.len() < 2 {
-        return Ok(());
-    }
-    trim_now(alloc, store, cells, course)?;
-    if !course.lacking && !course.disturbed {
-        return Ok(());
-    }
-    match resend_all(alloc, cells, course, mode) {
-        Ok(()) => Ok(()),
-        Err(_) => Err(Halt::Memory),
-    }
-}
-
-/// What cells made of what was given up is given up too. It says whether something was.
-fn judge_now<V: Site, M: Picked>(
-    alloc: Global,
-    store: &mut GatedStore<V, ByRules<M>>,
-    cells: &mut Vec<Cell<Seat<M>>>,
-    course: &mut Course,
-) -> Result<bool, Halt>
-    requires serving { IsServing M.origin M.rules store.old cells.old.items course.old.port }
-    ensures goes { GoesOn store.old store.new }
-    ensures kept { Keeps M.origin M.rules store.new }
-    ensures whole { result ≢ Err Halt.SayFault → store.new.logs.cut ≡ false }
-    ensures serving { OnOk result (IsServing M.origin M.rules store.new cells.new.items course.new.port) }
-    ensures rises { IfErr result (RisesFor (V.disk_faults store.old.logs.site)
-        (V.say_faults store.old.logs.site) (V.disk_faults store.new.logs.site)
-        (V.say_faults store.new.logs.site)) }
-    ensures past { IfErr result (IsPast M.rules store.new) }
-    ensures clock { result ≢ Err Halt.ClockFault }
-    ensures latest { store.new.logs.latest ≡ store.old.logs.latest }
-{
-    let count = cells.len() as u32;
-    let Ok(marks) = marks_now(alloc, store, count) else {
-        return Err(Halt::Memory);
-    };
-    let rewound = judge_all(alloc, store, cells, &course.crew, &marks);
-    drop(marks);
-    rewound
-}
-
-/// What cells made of what was given up is given up too, until nothing more is.
-fn settle_given_up<V: Site, M: Picked>(
-    alloc: Global,
-    store: &mut GatedStore<V, ByRules<M>>,
-    cells: &mut Vec<Cell<Seat<M>>>,
-    course: &mut Course,
-) -> Result<(), Halt>
-    requires serving { IsServing M.origin M.rules store.old cells.old.items course.old.port }
-    ensures goes { GoesOn store.old store.new }
-    ensures kept { Keeps M.origin M.rules store.new }
-    ensures whole { result ≢ Err Halt.SayFault → store.new.logs.cut ≡ false }
-    ensures serving { OnOk result (IsServing M.origin M.rules store.new cells.new.items course.new.port) }
-    ensures rises { IfErr result (RisesFor (V.disk_faults store.old.logs.site)
-        (V.say_faults store.old.logs.site) (V.disk_faults store.new.logs.site)
-        (V.say_faults store.new.logs.site)) }
-    ensures past { IfErr result (IsPast M.rules store.new) }
-    ensures clock { result ≢ Err Halt.ClockFault }
-    ensures latest { store.new.logs.latest ≡ store.old.logs.latest }
-{
-    'passes: for _ in 0..MOST_PASSES {
-        if !judge_now(alloc, store, cells, course)? {
-            return Ok(());
+    let _ = course;
+    match clock.now() {
+        Ok(now) => {
+            hear(store, cells, now);
+            Ok(())
         }
+        Err(_) => Err(Halt::ClockFault),
     }
-    Ok(())
-}
-
-/// Partitions follow the plan: they go where it moves them and away from nodes that stopped, and what depends on what was given up by it is
-/// given up too. It says whether one went.
-fn follow<V: Site, M: Picked>(
-    alloc: Global,
-    store: &mut GatedStore<V, ByRules<M>>,
-    cells: &mut Vec<Cell<Seat<M>>>,
-    course: &mut Course,
-    clients: &[Name],
-    mode: Mode,
-) -> Result<bool, Halt>
-    requires serving { IsServing M.origin M.rules store.old cells.old.items course.old.port }
-    ensures goes { GoesOn store.old store.new }
-    ensures kept { Keeps M.origin M.rules store.new }
-    ensures whole { result ≢ Err Halt.SayFault → store.new.logs.cut ≡ false }
-    ensures serving { OnOk result (IsServing M.origin M.rules store.new cells.new.items course.new.port) }
-    ensures rises { IfErr result (RisesFor (V.disk_faults store.old.logs.site)
-        (V.say_faults store.old.logs.site) (V.disk_faults store.new.logs.site)
-        (V.say_faults store.new.logs.site)) }
-    ensures past { IfErr result (IsPast M.rules store.new) }
-    ensures clock { result ≢ Err Halt.ClockFault }
-    ensures latest { store.new.logs.latest ≡ store.old.logs.latest }
-{
-    if !follow_plan(alloc, store, cells, course, mode)? {
-        return Ok(false);
-    }
-    settle_given_up(alloc, store, cells, course)?;
-    serve_all(alloc, store, cells, &mut course.port, clients)?;
-    Ok(true)
 }
 
 /// The clock is read, and a round is gone.
@@ -257,10 +85,13 @@ fn go_once<V: Site, M: Picked, R: Reactions, A: Activities, C: Clock>(
     pace: &Pace,
 ) -> Result<(), Halt>
     requires serving { IsServing M.origin M.rules store.old cells.old.items course.old.port }
+    requires none { NoneHeld cells.old.items }
+    requires enough { settled_labels (trail_in store.old.logs) < pace.now.steps }
     requires flows { R.flows reactions.now ≡ M.rules.flows }
     requires some { 0 < pace.now.batch }
     requires few { pace.now.batch ≤ 64 }
-    ensures goes { GoesOn store.old store.new }
+    requires bound { pace.now.batch ≤ M.rules.most }
+    ensures goes { GoesOn M.rules store.old store.new }
     ensures kept { Keeps M.origin M.rules store.new }
     ensures whole { result ≢ Err Halt.SayFault → store.new.logs.cut ≡ false }
     ensures serving { OnOk result (IsServing M.origin M.rules store.new cells.new.items course.new.port) }
@@ -274,11 +105,11 @@ fn go_once<V: Site, M: Picked, R: Reactions, A: Activities, C: Clock>(
     ensures latest { C.latest clock.old ≤ C.latest clock.new }
     ensures heard { store.old.logs.latest ≤ C.latest clock.old
         → store.new.logs.latest ≤ C.latest clock.new }
+    ensures by_clock { ByClock M.rules pace.now.steps (C.given clock.old) store.old (C.given clock.new)
+        store.new }
+    ensures seen { course.new.seen ≡ course.old.seen }
 {
-    match clock.now() {
-        Ok(now) => hear(store, cells, now),
-        Err(_) => return Err(Halt::ClockFault),
-    }
+    hear_clock(clock, store, cells, course, pace.steps)?;
     round(alloc, reactions, acts, store, cells, course, pace)
 }
 
@@ -295,10 +126,14 @@ fn go_round<V: Site, M: Picked, R: Reactions, A: Activities, C: Clock>(
     pace: &Pace,
 ) -> Result<bool, Halt>
     requires serving { IsServing M.origin M.rules store.old cells.old.items course.old.port }
+    requires none { NoneHeld cells.old.items }
+    requires enough { settled_labels (trail_in store.old.logs) < pace.now.steps }
+    requires counted { IsCounted course.old.seen (trail_in store.old.logs) }
     requires flows { R.flows reactions.now ≡ M.rules.flows }
     requires some { 0 < pace.now.batch }
     requires few { pace.now.batch ≤ 64 }
-    ensures goes { GoesOn store.old store.new }
+    requires bound { pace.now.batch ≤ M.rules.most }
+    ensures goes { GoesOn M.rules store.old store.new }
     ensures kept { Keeps M.origin M.rules store.new }
     ensures whole { result ≢ Err Halt.SayFault → store.new.logs.cut ≡ false }
     ensures serving { OnOk result (IsServing M.origin M.rules store.new cells.new.items course.new.port) }
@@ -312,11 +147,14 @@ fn go_round<V: Site, M: Picked, R: Reactions, A: Activities, C: Clock>(
     ensures latest { C.latest clock.old ≤ C.latest clock.new }
     ensures heard { store.old.logs.latest ≤ C.latest clock.old
         → store.new.logs.latest ≤ C.latest clock.new }
+    ensures by_clock { ByClock M.rules pace.now.steps (C.given clock.old) store.old (C.given clock.new)
+        store.new }
+    ensures counted { OnOk result (IsCounted course.new.seen (trail_in store.new.logs)) }
+    ensures still { result ≡ Ok false → course.new.seen.labels ≡ course.old.seen.labels }
 {
     go_once(alloc, reactions, acts, clock, store, cells, course, pace)?;
     let went = follow(alloc, store, cells, course, clients, pace.mode)?;
     let labels = serve_reached(alloc, store, cells, &mut course.port, &mut course.seen)?;
-    course.labels = course.labels.saturating_add(labels);
     if labels == 0 {
         return Ok(went);
     }
@@ -324,37 +162,27 @@ fn go_round<V: Site, M: Picked, R: Reactions, A: Activities, C: Clock>(
     Ok(true)
 }
 
-/// Where as many labels were settled as may be rounds end, whether something is possible still or not. So that what is told is what was
-/// settled, they are counted anew.
+/// Where as many labels were settled as may be rounds end, whether something is possible still or not.
 fn stop_long<V: Site, M: Picked>(
     alloc: Global,
     store: &GatedStore<V, ByRules<M>>,
     cells: &[Cell<Seat<M>>],
-    course: &mut Course,
+    course: &Course,
     clients: &[Name],
     steps: u64,
 ) -> Result<Option<End>, Halt>
     requires running { IsRunning M.origin M.rules store.now cells.now }
     requires clients { clients.now ≡ clients_of M.rules.requests }
-    ensures port { course.new.port ≡ course.old.port }
+    requires counted { IsCounted course.now.seen (trail_in store.now.logs) }
+    requires long { steps ≤ course.now.seen.labels }
     ensures ends { IfOk result (λ end. IfSome end
-        (EndsAs M.rules steps (trail_in store.now.logs) course.old.port)) }
+        (EndsAs M.rules steps (trail_in store.now.logs) course.now.port)) }
     ensures memory { IfErr result (λ halt. halt ≡ Halt.Memory) }
 {
-    let Ok(rest) = is_at_rest(alloc, store, cells, &course.port, clients) else {
-        return Err(Halt::Memory);
-    };
-    if rest {
-        return Ok(Some(End::Rest));
-    }
-    let Ok(labels) = count_labels(store) else {
-        return Err(Halt::Memory);
-    };
-    course.labels = labels;
-    if steps <= labels {
-        Ok(Some(End::Long(labels)))
-    } else {
-        Ok(None)
+    match is_at_rest(alloc, store, cells, &course.port, clients) {
+        Ok(true) => Ok(Some(End::Rest)),
+        Ok(false) => Ok(Some(End::Long(course.seen.labels))),
+        Err(_) => Err(Halt::Memory),
     }
 }
 
@@ -367,7 +195,8 @@ fn give_up<V: Site, M: Picked>(
     mode: Mode,
 ) -> Result<u64, Halt>
     requires serving { IsServing M.origin M.rules store.old cells.old.items course.old.port }
-    ensures goes { GoesOn store.old store.new }
+    requires counted { IsCounted course.old.seen (trail_in store.old.logs) }
+    ensures goes { GoesOn M.rules store.old store.new }
     ensures kept { Keeps M.origin M.rules store.new }
     ensures whole { result ≢ Err Halt.SayFault → store.new.logs.cut ≡ false }
     ensures serving { OnOk result (IsServing M.origin M.rules store.new cells.new.items course.new.port) }
@@ -377,11 +206,11 @@ fn give_up<V: Site, M: Picked>(
     ensures past { IfErr result (IsPast M.rules store.new) }
     ensures clock { result ≢ Err Halt.ClockFault }
     ensures latest { store.new.logs.latest ≡ store.old.logs.latest }
-    ensures sees { OnOk result (course.new.seen ≡ length (trail_in store.new.logs)) }
+    ensures counted { OnOk result (IsCounted course.new.seen (trail_in store.new.logs)) }
+    ensures adds { IfOk result (λ n. course.new.seen.labels ≡ course.old.seen.labels + n) }
 {
     own_all(alloc, store, cells, course, mode)?;
     let labels = serve_reached(alloc, store, cells, &mut course.port, &mut course.seen)?;
-    course.labels = course.labels.saturating_add(labels);
     Ok(labels)
 }
 
@@ -399,10 +228,12 @@ fn go_on<V: Site, M: Picked, R: Reactions, A: Activities, C: Clock>(
 ) -> Result<Option<End>, Halt>
     requires serving { IsServing M.origin M.rules store.old cells.old.items course.old.port }
     requires clients { clients.now ≡ clients_of M.rules.requests }
+    requires counted { IsCounted course.old.seen (trail_in store.old.logs) }
     requires flows { R.flows reactions.now ≡ M.rules.flows }
     requires some { 0 < pace.now.batch }
     requires few { pace.now.batch ≤ 64 }
-    ensures goes { GoesOn store.old store.new }
+    requires bound { pace.now.batch ≤ M.rules.most }
+    ensures goes { GoesOn M.rules store.old store.new }
     ensures kept { Keeps M.origin M.rules store.new }
     ensures whole { result ≢ Err Halt.SayFault → store.new.logs.cut ≡ false }
     ensures serving { OnOk result (IsServing M.origin M.rules store.new cells.new.items course.new.port) }
@@ -416,11 +247,19 @@ fn go_on<V: Site, M: Picked, R: Reactions, A: Activities, C: Clock>(
     ensures latest { C.latest clock.old ≤ C.latest clock.new }
     ensures heard { store.old.logs.latest ≤ C.latest clock.old
         → store.new.logs.latest ≤ C.latest clock.new }
+    ensures by_clock { ByClock M.rules pace.now.steps (C.given clock.old) store.old (C.given clock.new)
+        store.new }
     ensures ends { IfOk result (λ end. IfSome end
         (EndsAs M.rules pace.now.steps (trail_in store.new.logs) course.new.port)) }
+    ensures counted { OnOk result (IsCounted course.new.seen (trail_in store.new.logs)) }
 {
-    if pace.steps <= course.labels {
+    if pace.steps <= course.seen.labels {
         return stop_long(alloc, store, cells, course, clients, pace.steps);
+    }
+    if holds_some(cells) {
+        course.lacking = true;
+        give_up(alloc, store, cells, course, pace.mode)?;
+        return Ok(None);
     }
     if go_round(
         alloc, reactions, acts, clock, store, cells, course, clients, pace,
@@ -434,10 +273,7 @@ fn go_on<V: Site, M: Picked, R: Reactions, A: Activities, C: Clock>(
     match pump(
         alloc, reactions, acts, clock, store, cells, course, clients, pace,
     )? {
-        Pumped::Labels(labels) => {
-            course.labels = course.labels.saturating_add(labels);
-            Ok(None)
-        }
+        Pumped::Labels(_) => Ok(None),
         Pumped::Rest => Ok(Some(End::Rest)),
         Pumped::Stopped => Ok(None),
     }
@@ -457,10 +293,12 @@ pub fn drive<V: Site, M: Picked, R: Reactions, A: Activities, C: Clock>(
 ) -> Result<End, Halt>
     requires serving { IsServing M.origin M.rules store.old cells.old.items course.old.port }
     requires clients { clients.now ≡ clients_of M.rules.requests }
+    requires counted { IsCounted course.old.seen (trail_in store.old.logs) }
     requires flows { R.flows reactions.now ≡ M.rules.flows }
     requires some { 0 < pace.now.batch }
     requires few { pace.now.batch ≤ 64 }
-    ensures goes { GoesOn store.old store.new }
+    requires bound { pace.now.batch ≤ M.rules.most }
+    ensures goes { GoesOn M.rules store.old store.new }
     ensures kept { Keeps M.origin M.rules store.new }
     ensures whole { result ≢ Err Halt.SayFault → store.new.logs.cut ≡ false }
     ensures serving { OnOk result (IsServing M.origin M.rules store.new cells.new.items course.new.port) }
@@ -474,6 +312,8 @@ pub fn drive<V: Site, M: Picked, R: Reactions, A: Activities, C: Clock>(
     ensures latest { C.latest clock.old ≤ C.latest clock.new }
     ensures heard { store.old.logs.latest ≤ C.latest clock.old
         → store.new.logs.latest ≤ C.latest clock.new }
+    ensures by_clock { ByClock M.rules pace.now.steps (C.given clock.old) store.old (C.given clock.new)
+        store.new }
     ensures ends { IfOk result
         (EndsAs M.rules pace.now.steps (trail_in store.new.logs) course.new.port) }
 {

@@ -1,9 +1,11 @@
 //! Where a round added nothing, what is possible is done without the packets on their way.
 
-ghost use Rattle.std.specs.Prelude.{◌≡◌, ◌≢◌, ◌≤◌, ◌<◌, ◌+◌, false, max, true, length, Some, Ok, Err, IfErr, IfOk, IfSome, OnOk};
+ghost use Rattle.std.specs.Prelude.{◌≡◌, ◌≢◌, ◌≤◌, ℕ, ◌<◌, ◌+◌, false, max, true, length, Some, Ok, Err, IfErr, IfOk, IfSome, OnOk};
 ghost use Rattle.cell_frames.specs.Joined.{StoreView, view_of};
 ghost use Rattle.engine_rounds.specs.Adding.{Adds, HasLostNode, MayAdd};
-ghost use Rattle.round_steps.specs.Labels.{settled_labels};
+ghost use Rattle.engine_rounds.specs.Heard.{ByClock};
+ghost use Rattle.engine_rounds.specs.Held.{HaveHeard, NoneHeld};
+ghost use Rattle.round_steps.specs.Labels.{IsCounted, settled_labels};
 ghost use Rattle.round_steps.specs.Serving.{GoesOn, IsServing};
 ghost use Rattle.node_core.specs.Halts.{IsPast, RisesFor};
 ghost use Rattle.client_port.specs.Clients.{clients_of};
@@ -20,10 +22,12 @@ use dura_value::Name;
 use gated_store::GatedStore;
 use log_items::Packet;
 use many_rules::{ByRules, Picked};
-use node_core::{Crew, Halt};
+use node_core::{Crew, Halt, has_stopped};
 use part_rows::Reactions;
 use rest_check::is_at_rest;
-use round_steps::{Course, Pace, run_all_tasks, serve_all, serve_reached, step_and_commit};
+use round_steps::{
+    Course, Pace, own_all, run_all_tasks, serve_all, serve_reached, step_and_commit,
+};
 use site_model::{Clock, LAST_STAMP, Site};
 use spec_cell::{Arrived, Cell};
 use std::alloc::{AllocError, Global};
@@ -96,12 +100,23 @@ fn bring_all<M: Picked>(alloc: Global, cells: &mut Vec<Cell<Seat<M>>>) -> Result
     Ok(())
 }
 
+/// Whether a cell holds an entry that isn't settled.
+pub(crate) fn holds_some<M: Picked>(cells: &[Cell<Seat<M>>]) -> bool
+    ensures { result ≡ false → NoneHeld cells.now }
+{
+    'parts: for part in 0..cells.len() {
+        if cells[part].held() > 0 {
+            return true;
+        }
+    }
+    false
+}
+
 /// The moment comes to all cells.
 fn fire_all<M: Picked>(cells: &mut Vec<Cell<Seat<M>>>, now: u64)
     requires few { length cells.old.items ≤ 32 }
     ensures many { length cells.new.items ≡ length cells.old.items }
-    ensures joined { (s : StoreView) → AllJoined M.rules s cells.old.items
-        → AllJoined M.rules (record s { latest = max s.latest now }) cells.new.items }
+    ensures heard { HaveHeard now cells.old.items cells.new.items }
 {
     let count = cells.len() as u32;
     'parts: for part in 0..count {
@@ -109,14 +124,16 @@ fn fire_all<M: Picked>(cells: &mut Vec<Cell<Seat<M>>>, now: u64)
     }
 }
 
-/// The moment comes to all cells, and the store hears of it.
+/// The moment comes to all cells, which hold nothing, and the store hears of it. So what they make then is of this moment, and what they made
+/// before it is settled.
 pub(crate) fn hear<V: Site, M: Picked>(
     store: &mut GatedStore<V, ByRules<M>>,
     cells: &mut Vec<Cell<Seat<M>>>,
     now: u64,
 )
     requires running { IsRunning M.origin M.rules store.old cells.old.items }
-    ensures goes { GoesOn store.old store.new }
+    requires none { NoneHeld cells.old.items }
+    ensures goes { GoesOn M.rules store.old store.new }
     ensures site { store.new.logs.site ≡ store.old.logs.site }
     ensures told { told_in store.new.logs ≡ told_in store.old.logs }
     ensures trail { trail_in store.new.logs ≡ trail_in store.old.logs }
@@ -156,11 +173,11 @@ pub enum Pumped {
 }
 
 /// Whether a partition is on a node that has stopped by so many turns of the store.
-fn has_lost_node(crew: &Crew, count: u32, turns: u64) -> bool
+fn has_lost_node(crew: &Crew, turns: u64) -> bool
     ensures { result ≡ true → HasLostNode crew.now turns }
 {
-    'parts: for part in 0..count {
-        if crew.has_stopped(part, turns) {
+    'parts: for part in 0..crew.owners.len() {
+        if has_stopped(&crew.plan.stops, crew.owners[part], turns) {
             return true;
         }
     }
@@ -178,7 +195,7 @@ fn gather<V: Site, M: Picked, A: Activities>(
     seed: u32,
 ) -> Result<(), Halt>
     requires serving { IsServing M.origin M.rules store.old cells.old.items course.old.port }
-    ensures goes { GoesOn store.old store.new }
+    ensures goes { GoesOn M.rules store.old store.new }
     ensures kept { Keeps M.origin M.rules store.new }
     ensures whole { result ≢ Err Halt.SayFault → store.new.logs.cut ≡ false }
     ensures serving { OnOk result (IsServing M.origin M.rules store.new cells.new.items course.new.port) }
@@ -214,11 +231,12 @@ fn push<V: Site, M: Picked, R: Reactions, A: Activities>(
     pace: &Pace,
 ) -> Result<(bool, u64), Halt>
     requires serving { IsServing M.origin M.rules store.old cells.old.items course.old.port }
-    requires seen { course.old.seen ≡ length (trail_in store.old.logs) }
+    requires counted { IsCounted course.old.seen (trail_in store.old.logs) }
     requires flows { R.flows reactions.now ≡ M.rules.flows }
     requires some { 0 < pace.now.batch }
     requires few { pace.now.batch ≤ 64 }
-    ensures goes { GoesOn store.old store.new }
+    requires bound { pace.now.batch ≤ M.rules.most }
+    ensures goes { GoesOn M.rules store.old store.new }
     ensures kept { Keeps M.origin M.rules store.new }
     ensures whole { result ≢ Err Halt.SayFault → store.new.logs.cut ≡ false }
     ensures serving { OnOk result (IsServing M.origin M.rules store.new cells.new.items course.new.port) }
@@ -230,7 +248,7 @@ fn push<V: Site, M: Picked, R: Reactions, A: Activities>(
     ensures latest { store.new.logs.latest ≡ store.old.logs.latest }
     ensures adds { IfOk result (λ both. settled_labels (trail_in store.new.logs)
         ≡ settled_labels (trail_in store.old.logs) + both.1) }
-    ensures sees { OnOk result (course.new.seen ≡ length (trail_in store.new.logs)) }
+    ensures counted { OnOk result (IsCounted course.new.seen (trail_in store.new.logs)) }
 {
     gather(alloc, acts, store, cells, course, clients, pace.seed)?;
     let turned = step_and_commit(alloc, reactions, store, cells, course, 0, pace, 1)?;
@@ -260,6 +278,89 @@ fn rest_of<V: Site, M: Picked>(
     }
 }
 
+/// All that cells hold is given up, and all that is settled was seen then: what they made can't be settled as it is. It says how many labels were
+/// settled by it, if some were.
+fn give_up_seen<V: Site, M: Picked>(
+    alloc: Global,
+    store: &mut GatedStore<V, ByRules<M>>,
+    cells: &mut Vec<Cell<Seat<M>>>,
+    course: &mut Course,
+    mode: Mode,
+) -> Result<Option<Pumped>, Halt>
+    requires serving { IsServing M.origin M.rules store.old cells.old.items course.old.port }
+    requires counted { IsCounted course.old.seen (trail_in store.old.logs) }
+    ensures goes { GoesOn M.rules store.old store.new }
+    ensures kept { Keeps M.origin M.rules store.new }
+    ensures whole { result ≢ Err Halt.SayFault → store.new.logs.cut ≡ false }
+    ensures serving { OnOk result (IsServing M.origin M.rules store.new cells.new.items course.new.port) }
+    ensures rises { IfErr result (RisesFor (V.disk_faults store.old.logs.site)
+        (V.say_faults store.old.logs.site) (V.disk_faults store.new.logs.site)
+        (V.say_faults store.new.logs.site)) }
+    ensures past { IfErr result (IsPast M.rules store.new) }
+    ensures clock { result ≢ Err Halt.ClockFault }
+    ensures latest { store.new.logs.latest ≡ store.old.logs.latest }
+    ensures kind { IfOk result (λ come. IfSome come (λ one. (labels : ℕ)
+        × (one ≡ Pumped.Labels labels))) }
+    ensures adds { IfOk result (MayAdd (trail_in store.old.logs) (trail_in store.new.logs)) }
+    ensures counted { OnOk result (IsCounted course.new.seen (trail_in store.new.logs)) }
+{
+    own_all(alloc, store, cells, course, mode)?;
+    let labels = serve_reached(alloc, store, cells, &mut course.port, &mut course.seen)?;
+    if labels > 0 {
+        Ok(Some(Pumped::Labels(labels)))
+    } else {
+        Ok(None)
+    }
+}
+
+/// Where cells hold nothing, and nothing is possible now: the first timer's moment comes, or nothing is possible any more.
+fn wait_on<V: Site, M: Picked, C: Clock>(
+    alloc: Global,
+    clock: &mut C,
+    store: &mut GatedStore<V, ByRules<M>>,
+    cells: &mut Vec<Cell<Seat<M>>>,
+    course: &mut Course,
+    clients: &[Name],
+    steps: u64,
+) -> Result<Option<Pumped>, Halt>
+    requires serving { IsServing M.origin M.rules store.old cells.old.items course.old.port }
+    requires clients { clients.now ≡ clients_of M.rules.requests }
+    requires none { NoneHeld cells.old.items }
+    requires enough { settled_labels (trail_in store.old.logs) < steps }
+    requires counted { IsCounted course.old.seen (trail_in store.old.logs) }
+    ensures goes { GoesOn M.rules store.old store.new }
+    ensures kept { Keeps M.origin M.rules store.new }
+    ensures whole { result ≢ Err Halt.SayFault → store.new.logs.cut ≡ false }
+    ensures serving { OnOk result (IsServing M.origin M.rules store.new cells.new.items course.new.port) }
+    ensures rises { IfErr result (RisesFor (V.disk_faults store.old.logs.site)
+        (V.say_faults store.old.logs.site) (V.disk_faults store.new.logs.site)
+        (V.say_faults store.new.logs.site)) }
+    ensures past { IfErr result (IsPast M.rules store.new) }
+    ensures clock { result ≡ Err Halt.ClockFault
+        → HasRisen (C.clock_faults clock.old) (C.clock_faults clock.new) }
+    ensures ticks { C.clock_faults clock.old ≤ C.clock_faults clock.new }
+    ensures latest { C.latest clock.old ≤ C.latest clock.new }
+    ensures heard { store.old.logs.latest ≤ C.latest clock.old
+        → store.new.logs.latest ≤ C.latest clock.new }
+    ensures by_clock { ByClock M.rules steps (C.given clock.old) store.old (C.given clock.new) store.new }
+    ensures rest { result ≡ Ok (Some Pumped.Rest)
+        → IsAtRest M.rules (trail_in store.new.logs) course.new.port }
+    ensures kind { IfOk result (λ come. IfSome come (λ one. one ≡ Pumped.Rest)) }
+    ensures trail { trail_in store.new.logs ≡ trail_in store.old.logs }
+    ensures counted { OnOk result (IsCounted course.new.seen (trail_in store.new.logs)) }
+{
+    let Some(due) = next_due(cells) else {
+        return rest_of(alloc, store, cells, course, clients);
+    };
+    match clock.wait_until(due.min(LAST_STAMP)) {
+        Ok(now) => {
+            hear(store, cells, now);
+            Ok(None)
+        }
+        Err(_) => Err(Halt::ClockFault),
+    }
+}
+
 /// Labels are settled, or entries are, or the first timer's moment comes, or nothing is possible any more, or a node stopped on the way.
 fn push_on<V: Site, M: Picked, R: Reactions, A: Activities, C: Clock>(
     alloc: Global,
@@ -274,11 +375,13 @@ fn push_on<V: Site, M: Picked, R: Reactions, A: Activities, C: Clock>(
 ) -> Result<Option<Pumped>, Halt>
     requires serving { IsServing M.origin M.rules store.old cells.old.items course.old.port }
     requires clients { clients.now ≡ clients_of M.rules.requests }
-    requires seen { course.old.seen ≡ length (trail_in store.old.logs) }
+    requires enough { settled_labels (trail_in store.old.logs) < pace.now.steps }
+    requires counted { IsCounted course.old.seen (trail_in store.old.logs) }
     requires flows { R.flows reactions.now ≡ M.rules.flows }
     requires some { 0 < pace.now.batch }
     requires few { pace.now.batch ≤ 64 }
-    ensures goes { GoesOn store.old store.new }
+    requires bound { pace.now.batch ≤ M.rules.most }
+    ensures goes { GoesOn M.rules store.old store.new }
     ensures kept { Keeps M.origin M.rules store.new }
     ensures whole { result ≢ Err Halt.SayFault → store.new.logs.cut ≡ false }
     ensures serving { OnOk result (IsServing M.origin M.rules store.new cells.new.items course.new.port) }
@@ -292,34 +395,29 @@ fn push_on<V: Site, M: Picked, R: Reactions, A: Activities, C: Clock>(
     ensures latest { C.latest clock.old ≤ C.latest clock.new }
     ensures heard { store.old.logs.latest ≤ C.latest clock.old
         → store.new.logs.latest ≤ C.latest clock.new }
+    ensures by_clock { ByClock M.rules pace.now.steps (C.given clock.old) store.old (C.given clock.new)
+        store.new }
     ensures rest { result ≡ Ok (Some Pumped.Rest)
         → IsAtRest M.rules (trail_in store.new.logs) course.new.port }
     ensures stopped { result ≡ Ok (Some Pumped.Stopped)
         → HasLostNode course.new.crew store.new.turns }
     ensures adds { IfOk result (MayAdd (trail_in store.old.logs) (trail_in store.new.logs)) }
-    ensures sees { OnOk result (course.new.seen ≡ length (trail_in store.new.logs)) }
+    ensures counted { OnOk result (IsCounted course.new.seen (trail_in store.new.logs)) }
 {
     let (turned, labels) = push(alloc, reactions, acts, store, cells, course, clients, pace)?;
     if labels > 0 {
         return Ok(Some(Pumped::Labels(labels)));
     }
-    let count = cells.len() as u32;
-    if has_lost_node(&course.crew, count, store.turns()) {
+    if has_lost_node(&course.crew, store.turns()) {
         return Ok(Some(Pumped::Stopped));
     }
     if turned {
         return Ok(None);
     }
-    let Some(due) = next_due(cells) else {
-        return rest_of(alloc, store, cells, course, clients);
-    };
-    match clock.wait_until(due.min(LAST_STAMP)) {
-        Ok(now) => {
-            hear(store, cells, now);
-            Ok(None)
-        }
-        Err(_) => Err(Halt::ClockFault),
+    if holds_some(cells) {
+        return give_up_seen(alloc, store, cells, course, pace.mode);
     }
+    wait_on(alloc, clock, store, cells, course, clients, pace.steps)
 }
 
 /// Labels are settled where one is possible, or nothing is: a label more at least, and else the call is at rest. Where a node stops on the way,
@@ -337,11 +435,13 @@ pub fn pump<V: Site, M: Picked, R: Reactions, A: Activities, C: Clock>(
 ) -> Result<Pumped, Halt>
     requires serving { IsServing M.origin M.rules store.old cells.old.items course.old.port }
     requires clients { clients.now ≡ clients_of M.rules.requests }
-    requires seen { course.old.seen ≡ length (trail_in store.old.logs) }
+    requires enough { settled_labels (trail_in store.old.logs) < pace.now.steps }
+    requires counted { IsCounted course.old.seen (trail_in store.old.logs) }
     requires flows { R.flows reactions.now ≡ M.rules.flows }
     requires some { 0 < pace.now.batch }
     requires few { pace.now.batch ≤ 64 }
-    ensures goes { GoesOn store.old store.new }
+    requires bound { pace.now.batch ≤ M.rules.most }
+    ensures goes { GoesOn M.rules store.old store.new }
     ensures kept { Keeps M.origin M.rules store.new }
     ensures whole { result ≢ Err Halt.SayFault → store.new.logs.cut ≡ false }
     ensures serving { OnOk result (IsServing M.origin M.rules store.new cells.new.items course.new.port) }
@@ -355,11 +455,13 @@ pub fn pump<V: Site, M: Picked, R: Reactions, A: Activities, C: Clock>(
     ensures latest { C.latest clock.old ≤ C.latest clock.new }
     ensures heard { store.old.logs.latest ≤ C.latest clock.old
         → store.new.logs.latest ≤ C.latest clock.new }
+    ensures by_clock { ByClock M.rules pace.now.steps (C.given clock.old) store.old (C.given clock.new)
+        store.new }
     ensures rest { result ≡ Ok Pumped.Rest
         → IsAtRest M.rules (trail_in store.new.logs) course.new.port }
     ensures stopped { result ≡ Ok Pumped.Stopped → HasLostNode course.new.crew store.new.turns }
     ensures adds { IfOk result (Adds (trail_in store.old.logs) (trail_in store.new.logs)) }
-    ensures sees { OnOk result (course.new.seen ≡ length (trail_in store.new.logs)) }
+    ensures counted { OnOk result (IsCounted course.new.seen (trail_in store.new.logs)) }
 {
     'pushes: for _ in 0..u64::MAX {
         let pumped = push_on(

@@ -4,6 +4,7 @@ use Rattle.cluster_run.specs.Comes.{AreUnfit, ComesTo, KeepsFiles, LeavesLogs}
 use Rattle.command_words.specs.Command.{call_in}
 use Rattle.command_words.specs.declared.words.Call.TheVariants.{Run, Show}
 use Rattle.command_words.specs.declared.words.RunOptions.{RunOptions}
+use Rattle.engine_rounds.specs.Heard.{heard_of}
 use Rattle.engine_run.specs.Causes.{AsksFor, CauseHolds, AreRefused, LeavesAll, SettlesNothing, Untouched}
 use Rattle.engine_run.specs.Ends.{Terms}
 use Rattle.engine_run.specs.Headline.{Headline}
@@ -44,7 +45,7 @@ pub record Promises (words : List (List ℕ)) (tells : Type 0) (old new : List S
       → Headline job (λ file. content_of file old) old new trail (terms options) cause
   -- The same of a run over partitions and nodes, in whatever order what the files kept was accepted; or why its files are refused, which leaves
   -- them as they are. And why it ends.
-  pub comes : tells → (options : RunOptions) → RunsOver words options → ComesTo options (λ file. content_of file old) (terms options).latest tells old new trail cause
+  pub comes : tells → (options : RunOptions) → RunsOver words options → ComesTo options (λ file. content_of file old) (heard_of (terms options).before (terms options).after (terms options).latest) tells old new trail cause
   -- a refusal writes and says nothing
   pub keeps : (options : RunOptions) → RunsOver words options → KeepsFiles options.partitions old new cause
   -- where the files are to be refused nothing is written, said or settled, whatever the cause

@@ -80,7 +80,7 @@ module _ (flows : Flows) (count digest : ℕ) (start behind : List Commit) (befo
   -- from then on
   module _ (lived : WentOn flows count digest life.old life.new life.trail) (high : length lived.origin.steps ≤ life.moment) where
     -- what the files stand for that a crash leaves
-    stands : (image : ℕ → List ℕ) → IsImage (by_then life) image → (latest : ℕ) × StandsOn (rules_from flows count own lived.begin lived.incarnations lived.requests lived.serves) latest digest lived.origin (by_then life) (settled_at life.moment life.trail) image
+    stands : (image : ℕ → List ℕ) → IsImage (by_then life) image → (latest : ℕ) × StandsOn (rules_from flows count own lived.begin lived.incarnations lived.since lived.most lived.requests lived.serves) latest digest lived.origin (by_then life) (settled_at life.moment life.trail) image
     stands image left = lived.crash own first_kept.kept life.moment high is.within image left
 
     -- they keep what was settled by then
@@ -98,7 +98,7 @@ module _ (flows : Flows) (count digest : ℕ) (start behind : List Commit) (befo
     speaks : Speaks flows (start ++ all_after) life
     speaks =
         let some = some_image (by_then life) in
-        let rules = rules_from flows count own lived.begin lived.incarnations lived.requests lived.serves in
+        let rules = rules_from flows count own lived.begin lived.incarnations lived.since lived.most lived.requests lived.serves in
         let on = (stands some.0 some.1).1 in record {
           told = on.told;
           lines = on.lines;

@@ -58,8 +58,8 @@ abbrev pub settled_then : Life → List Commit
 settled_then life = commits_of (settled_at life.moment life.trail)
 
 -- Once logs are opened a call goes by such rules, which begin with the entries that were kept.
-abbrev pub rules_from : Flows → (count : ℕ) → List Commit → (begin : ℕ → Partition) → (incarnations : ℕ → ℕ) → List Request → (serves : Bool) → Rules
-rules_from flows count kept begin incarnations requests serves = record { flows = flows; count = count; recovered = kept; begin = begin; incarnations = incarnations; requests = requests; serves = serves }
+abbrev pub rules_from : Flows → (count : ℕ) → List Commit → (begin : ℕ → Partition) → (incarnations : ℕ → ℕ) → (since most : ℕ) → List Request → (serves : Bool) → Rules
+rules_from flows count kept begin incarnations since most requests serves = record { flows = flows; count = count; recovered = kept; begin = begin; incarnations = incarnations; since = since; most = most; requests = requests; serves = serves }
 
 -- A call opened the logs and went on. As long as it opened them a crash left what it could have left before, or files that keep the same,
 -- and nothing was settled; from then on, up to the end, files that stand for a run that goes on by its rules from what the files kept, in
@@ -68,13 +68,15 @@ pub record WentOn (flows : Flows) (count digest : ℕ) (old new : List Step) (tr
   pub origin : Origin
   pub begin : ℕ → Partition
   pub incarnations : ℕ → ℕ
+  pub since : ℕ
+  pub most : ℕ
   pub requests : List Request
   pub serves : Bool
   pub opening : OpensOnly flows count digest old origin.steps
   pub further : Always (λ moment. Unit {0}) origin.steps new
   pub nothing : (moment : ℕ) → moment < length origin.steps → settled_at moment trail ≡ []
   pub crash : (kept : List Commit) → AreKept flows count digest (λ file. content_of file old) kept → (moment : ℕ) → length origin.steps ≤ moment → moment ≤ length new
-      → (files : ℕ → List ℕ) → IsImage (back_to moment new) files → (latest : ℕ) × StandsOn (rules_from flows count kept begin incarnations requests serves) latest digest origin (back_to moment new) (settled_at moment trail) files
+      → (files : ℕ → List ℕ) → IsImage (back_to moment new) files → (latest : ℕ) × StandsOn (rules_from flows count kept begin incarnations since most requests serves) latest digest origin (back_to moment new) (settled_at moment trail) files
 
 -- A call went on, or it opened logs at most, and nothing was settled. The moment is one of it.
 pub record IsOneLife (flows : Flows) (count digest : ℕ) (life : Life) : Type 0 where

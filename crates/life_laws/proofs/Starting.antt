@@ -20,6 +20,8 @@ one_life flows count digest mode nodes old new done came trail moment tells it i
         origin = origin_of count digest is.steps is.begun;
         begin = rules.begin;
         incarnations = rules.incarnations;
+        since = rules.since;
+        most = rules.most;
         requests = rules.requests;
         serves = rules.serves;
         opening = is.opening it;

@@ -10,7 +10,7 @@ use Rattle.many_examples.specs.RulesBy.{rules_with, first_asked}
 use Rattle.many_examples.proofs.RulesBy.{comes_in, takes}
 use Rattle.many_logs.specs.Labels.{state_next}
 use Rattle.many_rules.specs.Makes.{Makes}
-use Rattle.many_rules.specs.Rules.{rules_at, IsOurs}
+use Rattle.many_rules.specs.Rules.{rules_at, IsFrom, IsOurs}
 use Rattle.part_items.specs.Numbered.{IsNumbered}
 use Rattle.run_rules.specs.Rules.{IsAsked, IsBy, EndsPending}
 
@@ -29,7 +29,10 @@ makes_coming flows = record {
   ours = All-from_recursion (IsOurs (rules_with flows) 0 [] 0) ((coming_in 0).entry ∷ []) (
     record {
       incarnation = omega arith;
+      some = omega arith;
+      few = omega arith;
       asked = λ serves. All-from_recursion (IsAsked (rules_at (rules_with flows) 0) []) (coming_in 0).entry.items (tt, tt);
+      since = All-from_recursion (IsFrom 0) (coming_in 0).entry.items (tt, tt);
       timely = All-from_recursion (IsBy 0) (coming_in 0).entry.items (tt, tt);
     },
     tt,
@@ -55,7 +58,10 @@ makes_later flows = record {
   ours = All-from_recursion (IsOurs (rules_with flows) 0 [] 0) (later_entry ∷ []) (
     record {
       incarnation = omega arith;
+      some = omega arith;
+      few = omega arith;
       asked = λ serves. All-from_recursion (IsAsked (rules_at (rules_with flows) 0) []) later_entry.items (tt, tt);
+      since = All-from_recursion (IsFrom 0) later_entry.items (tt, tt);
       timely = All-from_recursion (IsBy 0) later_entry.items (tt, tt);
     },
     tt,
@@ -77,8 +83,11 @@ makes_taking flows = record {
   ours = All-from_recursion (IsOurs (rules_with flows) 0 [] 1) (taking.entry ∷ []) (
     record {
       incarnation = omega arith;
+      some = omega arith;
+      few = omega arith;
       asked = λ serves. All-from_recursion (IsAsked (rules_at (rules_with flows) 1) []) taking.entry.items
           (record { name = codes "a"; place = 0; request = first_asked; asked = refl; sends = refl; answered = omega arith }, tt);
+      since = All-from_recursion (IsFrom 0) taking.entry.items (tt, tt);
       timely = All-from_recursion (IsBy 0) taking.entry.items (tt, tt);
     },
     tt,

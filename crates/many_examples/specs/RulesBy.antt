@@ -50,6 +50,8 @@ rules_with flows = record {
   recovered = [];
   begin = fresh;
   incarnations = λ partition. 0;
+  since = 0;
+  most = 64;
   requests = first_asked ∷ then_asked ∷ [];
   serves = true;
 }

@@ -116,13 +116,22 @@ pub fn calls_begin()
         digest → ⊥ }
 {}
 
-/// An entry of this call is of its partition's incarnation or a later one, and of no later stamp than the clock's.
+/// An entry of this call is of its partition's incarnation or a later one; it has an item or more, and no more than may be; and it is of no
+/// stamp before the call began, and of none later than the clock's.
 pub fn entries_of_call()
     ensures coming { (flows : Flows)
         → IsOurs (rules_with flows) 0 [] 0 (coming_in 0).entry }
     ensures fired { (flows : Flows) → IsOurs (rules_with flows) 5 [] 1 (firing 5) }
     ensures incarnation { (flows : Flows)
         → IsOurs (later_rules flows) 0 [] 0 (coming_in 0).entry → ⊥ }
+    ensures some { (flows : Flows)
+        → IsOurs (rules_with flows) 0 [] 0 (record (firing 5) { items = [] }) → ⊥ }
+    ensures few { (flows : Flows)
+        → IsOurs (record (rules_with flows) { most = 0 }) 5 [] 1 (firing 5) → ⊥ }
+    ensures since { (flows : Flows)
+        → IsOurs (record (rules_with flows) { since = 6 }) 5 [] 1 (firing 5) → ⊥ }
+    ensures from_then { (flows : Flows)
+        → IsOurs (record (rules_with flows) { since = 5 }) 5 [] 1 (firing 5) }
     ensures timely { (flows : Flows) → IsOurs (rules_with flows) 4 [] 1 (firing 5) → ⊥ }
 {}
 

@@ -15,6 +15,9 @@ module _ (rules : Rules) (latest : ℕ) (partition : ℕ) (entry : Entry) where
   pub ours_still : (told more : Told) → IsOurs rules latest told partition entry → IsOurs rules latest (told ++ more) partition entry
   ours_still told more ours = record {
     incarnation = ours.incarnation;
+    some = ours.some;
+    few = ours.few;
+    since = ours.since;
     asked = λ serves. (going.ours_still (rules_at rules partition) latest told more _ (at_first told ours (ours.asked serves))).asked;
     timely = ours.timely;
   }
@@ -22,6 +25,9 @@ module _ (rules : Rules) (latest : ℕ) (partition : ℕ) (entry : Entry) where
   pub ours_later : (later : ℕ) (told : Told) → latest ≤ later → IsOurs rules latest told partition entry → IsOurs rules later told partition entry
   ours_later later told above ours = record {
     incarnation = ours.incarnation;
+    some = ours.some;
+    few = ours.few;
     asked = ours.asked;
+    since = ours.since;
     timely = λ k d inside. going.by_later (max (rules.begin partition).stamp latest) (max (rules.begin partition).stamp later) (omega (arith, above)) _ (ours.timely k d inside);
   }

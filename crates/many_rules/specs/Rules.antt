@@ -1,10 +1,10 @@
 -- What a call of many partitions may commit.
-use Rattle.std.specs.Prelude.{◌≡◌, ◌<◌, ◌≤◌, ℕ, max, Bool, List, ◌++◌, map, true, Some, Ok}
+use Rattle.std.specs.Prelude.{◌≡◌, ◌<◌, ◌≤◌, ℕ, max, Bool, List, ◌++◌, length, map, true, Some, Ok}
 use Rattle.std.specs.List.{All}
 use Rattle.client_port.specs.Lines.{line_of}
 use Rattle.dura_model.specs.Partition.{Partition}
 use Rattle.dura_value.specs.Ids.{client, home}
-use Rattle.dura_value.specs.Items.{Identity, Entry}
+use Rattle.dura_value.specs.Items.{Identity, Item, Entry, took, got, ran, ended, fired, trim}
 use Rattle.dura_value.specs.Messages.{Answer}
 use Rattle.flow_syntax.specs.Syntax.{Flows}
 use Rattle.hub_store.specs.Trail.{Settled, Said, of_part}
@@ -18,15 +18,18 @@ use Rattle.run_rules.specs.Rules as one
 use Rattle.run_rules.specs.Rules.{Told, IsAsked, IsBy, EndPending, count_told, request_at}
 
 -- What is fixed when a call begins: the flows, how many partitions there are, the entries that were recovered, the states that these
--- made, the incarnations of the first entries that come, what clients ask, and whether the call serves them: it takes only what they
--- ask, each of their requests once those before it were answered, it says each answer once, and it runs only activities whose tasks are
--- settled. A call that serves nobody may take and say anything, and runs what it likes.
+-- made, the incarnations of the first entries that come, the moment that the clock gave first, how many items an entry may have, what
+-- clients ask, and whether the call serves them: it takes only what they ask, each of their requests once those before it were answered,
+-- it says each answer once, and it runs only activities whose tasks are settled. A call that serves nobody may take and say anything, and
+-- runs what it likes.
 pub record Rules : Type 0 where
   pub flows : Flows
   pub count : ℕ
   pub recovered : List Commit
   pub begin : ℕ → Partition
   pub incarnations : ℕ → ℕ
+  pub since : ℕ
+  pub most : ℕ
   pub requests : List Request
   pub serves : Bool
 
@@ -42,11 +45,24 @@ commits_of = map (λ one. record { partition = one.partition; entry = one.entry 
 abbrev pub pairs_of : List Said → Told
 pairs_of = map (λ one. (one.client, one.number))
 
--- The items of an entry are asked for, it is of the incarnation with which the call begins or of one that began in it, and none of its
--- items is of a later stamp than both its log's entries at the beginning and the clock's latest.
+-- an item that has a stamp has none that is before this
+abbrev pub IsFrom : ℕ → Item → Type 0
+IsFrom since (took message) = Unit {0}
+IsFrom since (got source number message) = Unit {0}
+IsFrom since (ran from to stamp) = since ≤ stamp
+IsFrom since (ended id task outcome) = Unit {0}
+IsFrom since (fired id task stamp) = since ≤ stamp
+IsFrom since (trim reader number) = Unit {0}
+
+-- An entry has items, as many as it may, and they are asked for; it is of the incarnation with which the call begins or of one that began
+-- in it; and none of its items is of an earlier stamp than the call's beginning, or of a later one than both its log's entries at the
+-- beginning and the clock's latest.
 pub record IsOurs (rules : Rules) (latest : ℕ) (told : Told) (partition : ℕ) (entry : Entry) : Type 0 where
   pub incarnation : rules.incarnations partition ≤ entry.incarnation
+  pub some : 0 < length entry.items
+  pub few : length entry.items ≤ rules.most
   pub asked : rules.serves ≡ true → All (IsAsked (rules_at rules partition) told) entry.items
+  pub since : All (IsFrom rules.since) entry.items
   pub timely : All (IsBy (max (rules.begin partition).stamp latest)) entry.items
 
 -- the outcomes of these entries are of activities that were pending where all is settled

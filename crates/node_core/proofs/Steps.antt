@@ -45,12 +45,12 @@ module _ {V N : Type 0} {G : sites.Ghosts V} {H : starts.Ghosts N} where
 -- cells changed that stay joined to the store
 pub cells_run : {V L : Type 0} {G : sites.Ghosts V} {K : starts.Ghosts (gated_types.Gated L)} (o : Origin) (rules : Rules) (store : GatedStore V L G K) (old new : List CellView) → IsRunning o rules store old → length new ≡ length old
     → ((s : StoreView) → AllJoined rules s old → AllJoined rules s new) → IsRunning o rules store new
-cells_run o rules store old new r many joined = record { begun = r.begun; some = r.some; few = r.few; many = many ∙ r.many; kept = r.kept; still = r.still; whole = r.whole; joined = joined (view_of store) r.joined }
+cells_run o rules store old new r many joined = record { begun = r.begun; serves = r.serves; some = r.some; few = r.few; many = many ∙ r.many; kept = r.kept; still = r.still; whole = r.whole; joined = joined (view_of store) r.joined }
 
 -- a call on frames left the store kept, and no device call failed
 pub runs_on : {V L : Type 0} {G : sites.Ghosts V} {K : starts.Ghosts (gated_types.Gated L)} (o : Origin) (rules : Rules) (old new : GatedStore V L G K) (cells later : List CellView) → IsRunning o rules old cells → KeepsAll old.logs new.logs → Keeps o rules new
     → new.logs.halted ≡ false → length later ≡ length cells → AllJoined rules (view_of new) later → IsRunning o rules new later
-runs_on o rules old new cells later r keeps kept still many joined = record { begun = r.begun; some = r.some; few = r.few; many = many ∙ r.many; kept = kept; still = still; whole = keeps.whole ∙ r.whole; joined = joined }
+runs_on o rules old new cells later r keeps kept still many joined = record { begun = r.begun; serves = r.serves; some = r.some; few = r.few; many = many ∙ r.many; kept = kept; still = still; whole = keeps.whole ∙ r.whole; joined = joined }
 
 -- logs and ledgers are as they were
 pub runs_same : {V L : Type 0} {G : sites.Ghosts V} {K : starts.Ghosts (gated_types.Gated L)} (o : Origin) (rules : Rules) (old new : GatedStore V L G K) (cells : List CellView) → IsRunning o rules old cells → Keeps o rules new → new.logs ≡ old.logs

@@ -1,5 +1,5 @@
 -- What holds of the store and the cells of a call between its steps.
-use Rattle.std.specs.Prelude.{◌≡◌, ◌≤◌, ◌<◌, false, List, length}
+use Rattle.std.specs.Prelude.{◌≡◌, ◌≤◌, ◌<◌, false, true, List, length}
 use Rattle.cell_frames.specs.Begun.{HasBegun}
 use Rattle.cell_frames.specs.Joined.{view_of}
 use Rattle.gated_store.specs.Kept.{IsKept}
@@ -18,10 +18,11 @@ use Rattle.world_steps.specs.Cells.{AllJoined}
 abbrev pub Keeps : {V L : Type 0} {G : sites.Ghosts V} {K : starts.Ghosts (gated_types.Gated L)} → Origin → Rules → GatedStore V L G K → Type 0
 Keeps o rules store = IsKept o.count (ledgers rules) (readers rules) (Makes rules) store
 
--- The call goes on: it began by its rules, there are 1 to 32 partitions and a cell for each, the store is kept, no device call failed, no
+-- The call goes on: it began by its rules, by which it serves clients, there are 1 to 32 partitions and a cell for each, the store is kept, no device call failed, no
 -- line was cut, and each cell is joined to the store.
 pub record IsRunning {V L : Type 0} {G : sites.Ghosts V} {K : starts.Ghosts (gated_types.Gated L)} (o : Origin) (rules : Rules) (store : GatedStore V L G K) (cells : List CellView) : Type 0 where
   pub begun : HasBegun o rules
+  pub serves : rules.serves ≡ true
   pub some : 0 < rules.count
   pub few : rules.count ≤ 32
   pub many : length cells ≡ rules.count

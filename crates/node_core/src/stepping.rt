@@ -89,6 +89,7 @@ pub fn step_turn<M: Picked, R: Reactions>(
     requires flows { R.flows reactions.now ≡ M.rules.flows }
     requires some { 0 < limit }
     requires most { limit ≤ 64 }
+    requires bound { limit ≤ M.rules.most }
     requires place { part < length cells.old.items }
     ensures many { length cells.new.items ≡ length cells.old.items }
     ensures steps { IfOk result (λ both. StepsPart M.rules mode limit part cells.old.items

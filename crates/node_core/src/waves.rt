@@ -2,8 +2,8 @@
 //! which is made safe by one call again, and each is settled.
 
 ghost use Rattle.std.specs.Prelude.{◌<◌, IfErr, OnOk};
-ghost use Rattle.hub_store.specs.Changes.{KeepsAll, trail_in};
-ghost use Rattle.node_core.specs.Growing.{Grows};
+ghost use Rattle.hub_store.specs.Changes.{KeepsAll};
+ghost use Rattle.node_core.specs.Growing.{GrowsOn};
 ghost use Rattle.node_core.specs.Halts.{IsPast, IsSilent, RisesFor};
 ghost use Rattle.node_core.specs.Running.{IsRunning, Keeps};
 
@@ -34,7 +34,7 @@ fn judge_part<V: Site, M: Picked>(
     requires running { IsRunning M.origin M.rules store.old cells.old.items }
     requires place { part < M.rules.count }
     ensures keeps { KeepsAll store.old.logs store.new.logs }
-    ensures grows { Grows (trail_in store.old.logs) (trail_in store.new.logs) }
+    ensures grows { GrowsOn M.rules store.old store.new }
     ensures kept { Keeps M.origin M.rules store.new }
     ensures running { OnOk result (IsRunning M.origin M.rules store.new cells.new.items) }
     ensures rises { IfErr result (RisesFor (V.disk_faults store.old.logs.site)
@@ -67,7 +67,7 @@ pub fn judge_all<V: Site, M: Picked>(
 ) -> Result<bool, Halt>
     requires running { IsRunning M.origin M.rules store.old cells.old.items }
     ensures keeps { KeepsAll store.old.logs store.new.logs }
-    ensures grows { Grows (trail_in store.old.logs) (trail_in store.new.logs) }
+    ensures grows { GrowsOn M.rules store.old store.new }
     ensures kept { Keeps M.origin M.rules store.new }
     ensures running { OnOk result (IsRunning M.origin M.rules store.new cells.new.items) }
     ensures rises { IfErr result (RisesFor (V.disk_faults store.old.logs.site)
@@ -98,7 +98,7 @@ fn write_part<V: Site, M: Picked>(
     requires running { IsRunning M.origin M.rules store.old cells.old.items }
     requires place { part < M.rules.count }
     ensures keeps { KeepsAll store.old.logs store.new.logs }
-    ensures grows { Grows (trail_in store.old.logs) (trail_in store.new.logs) }
+    ensures grows { GrowsOn M.rules store.old store.new }
     ensures kept { Keeps M.origin M.rules store.new }
     ensures running { OnOk result (IsRunning M.origin M.rules store.new cells.new.items) }
     ensures rises { IfErr result (RisesFor (V.disk_faults store.old.logs.site)
@@ -128,7 +128,7 @@ fn write_all<V: Site, M: Picked>(
 ) -> Result<bool, Halt>
     requires running { IsRunning M.origin M.rules store.old cells.old.items }
     ensures keeps { KeepsAll store.old.logs store.new.logs }
-    ensures grows { Grows (trail_in store.old.logs) (trail_in store.new.logs) }
+    ensures grows { GrowsOn M.rules store.old store.new }
     ensures kept { Keeps M.origin M.rules store.new }
     ensures running { OnOk result (IsRunning M.origin M.rules store.new cells.new.items) }
     ensures rises { IfErr result (RisesFor (V.disk_faults store.old.logs.site)
@@ -155,7 +155,7 @@ fn sync_all<V: Site, M: Picked>(
 ) -> Result<(), Halt>
     requires running { IsRunning M.origin M.rules store.old _cells.now }
     ensures keeps { KeepsAll store.old.logs store.new.logs }
-    ensures grows { Grows (trail_in store.old.logs) (trail_in store.new.logs) }
+    ensures grows { GrowsOn M.rules store.old store.new }
     ensures kept { Keeps M.origin M.rules store.new }
     ensures running { OnOk result (IsRunning M.origin M.rules store.new _cells.now) }
     ensures rises { IfErr result (RisesFor (V.disk_faults store.old.logs.site)
@@ -183,7 +183,7 @@ fn open_part<V: Site, M: Picked>(
     requires running { IsRunning M.origin M.rules store.old _cells.now }
     requires place { part < M.rules.count }
     ensures keeps { KeepsAll store.old.logs store.new.logs }
-    ensures grows { Grows (trail_in store.old.logs) (trail_in store.new.logs) }
+    ensures grows { GrowsOn M.rules store.old store.new }
     ensures kept { Keeps M.origin M.rules store.new }
     ensures running { OnOk result (IsRunning M.origin M.rules store.new _cells.now) }
     ensures rises { IfErr result (RisesFor (V.disk_faults store.old.logs.site)
@@ -211,7 +211,7 @@ fn open_all<V: Site, M: Picked>(
 ) -> Result<(), Halt>
     requires running { IsRunning M.origin M.rules store.old cells.now }
     ensures keeps { KeepsAll store.old.logs store.new.logs }
-    ensures grows { Grows (trail_in store.old.logs) (trail_in store.new.logs) }
+    ensures grows { GrowsOn M.rules store.old store.new }
     ensures kept { Keeps M.origin M.rules store.new }
     ensures running { OnOk result (IsRunning M.origin M.rules store.new cells.now) }
     ensures rises { IfErr result (RisesFor (V.disk_faults store.old.logs.site)
@@ -241,7 +241,7 @@ fn settle_part<V: Site, M: Picked>(
     requires running { IsRunning M.origin M.rules store.old cells.old.items }
     requires place { part < M.rules.count }
     ensures keeps { KeepsAll store.old.logs store.new.logs }
-    ensures grows { Grows (trail_in store.old.logs) (trail_in store.new.logs) }
+    ensures grows { GrowsOn M.rules store.old store.new }
     ensures kept { Keeps M.origin M.rules store.new }
     ensures running { OnOk result (IsRunning M.origin M.rules store.new cells.new.items) }
     ensures rises { IfErr result (RisesFor (V.disk_faults store.old.logs.site)
@@ -275,7 +275,7 @@ fn settle_all<V: Site, M: Picked>(
 ) -> Result<bool, Halt>
     requires running { IsRunning M.origin M.rules store.old cells.old.items }
     ensures keeps { KeepsAll store.old.logs store.new.logs }
-    ensures grows { Grows (trail_in store.old.logs) (trail_in store.new.logs) }
+    ensures grows { GrowsOn M.rules store.old store.new }
     ensures kept { Keeps M.origin M.rules store.new }
     ensures running { OnOk result (IsRunning M.origin M.rules store.new cells.new.items) }
     ensures rises { IfErr result (RisesFor (V.disk_faults store.old.logs.site)
@@ -312,7 +312,7 @@ fn write_now<V: Site, M: Picked>(
 ) -> Result<bool, Halt>
     requires running { IsRunning M.origin M.rules store.old cells.old.items }
     ensures keeps { KeepsAll store.old.logs store.new.logs }
-    ensures grows { Grows (trail_in store.old.logs) (trail_in store.new.logs) }
+    ensures grows { GrowsOn M.rules store.old store.new }
     ensures kept { Keeps M.origin M.rules store.new }
     ensures running { OnOk result (IsRunning M.origin M.rules store.new cells.new.items) }
     ensures rises { IfErr result (RisesFor (V.disk_faults store.old.logs.site)
@@ -341,7 +341,7 @@ pub fn commit_wave<V: Site, M: Picked>(
 ) -> Result<Wave, Halt>
     requires running { IsRunning M.origin M.rules store.old cells.old.items }
     ensures keeps { KeepsAll store.old.logs store.new.logs }
-    ensures grows { Grows (trail_in store.old.logs) (trail_in store.new.logs) }
+    ensures grows { GrowsOn M.rules store.old store.new }
     ensures kept { Keeps M.origin M.rules store.new }
     ensures running { OnOk result (IsRunning M.origin M.rules store.new cells.new.items) }
     ensures rises { IfErr result (RisesFor (V.disk_faults store.old.logs.site)

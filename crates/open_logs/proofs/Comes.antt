@@ -112,7 +112,7 @@ module _ (count : ℕ) (opened : Opened) (ready : Ready) (can : CanGoOn count op
     begins_by : (rules : Rules) → BeginsBy flows count digest (λ file. content_of file old) (begun_of opened ready) rules → Begins (origin_of count digest new (begun_of opened ready)) rules digest
     begins_by rules by =
         let plain : Rules = record rules { flows = flows; count = count; begin = parts_in opened.states.items } in
-        let same : rules ≡ plain = λ i. record { flows = by.flows_are i; count = by.count_is i; recovered = rules.recovered; begin = by.states i; incarnations = rules.incarnations; requests = rules.requests; serves = rules.serves } in
+        let same : rules ≡ plain = λ i. record { flows = by.flows_are i; count = by.count_is i; recovered = rules.recovered; begin = by.states i; incarnations = rules.incarnations; since = rules.since; most = rules.most; requests = rules.requests; serves = rules.serves } in
         let made = made_by rules.recovered by.kept in
         subst (λ (r : Rules). Begins (origin_of count digest new (begun_of opened ready)) r digest) (sym same)
         (begins_there plain digest is.logs new ready.logs.items are_opened made.below (same_entries flows count digest (λ file. content_of file old) opened is rules.recovered by.kept) made.made (let kept = by.kept in kept.given))

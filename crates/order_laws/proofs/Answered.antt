@@ -21,7 +21,7 @@ module _ (rules : Rules) (kept : List Commit) where
 
   -- entries of the one call are of the other
   pub own_alike : (latest : ℕ) (told : List Said) (partition : ℕ) (entries : List Entry) → All (IsOurs rules latest (pairs_of told) partition) entries → All (IsOurs other latest (pairs_of told) partition) entries
-  own_alike latest told partition entries own = λ k d inside. let one = own k d inside in record { incarnation = one.incarnation; asked = one.asked; timely = one.timely }
+  own_alike latest told partition entries own = λ k d inside. let one = own k d inside in record { incarnation = one.incarnation; some = one.some; few = one.few; asked = one.asked; since = one.since; timely = one.timely }
 
   -- what ran only once its task was settled did so
   pub ran_alike : {settled : List Commit} → AllRan rules settled → AllRan other settled

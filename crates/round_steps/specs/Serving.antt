@@ -4,12 +4,12 @@ use Rattle.client_port.specs.Clients.{clients_of, requests_of}
 use Rattle.client_port.specs.Ports.{Queue, is_of}
 use Rattle.gated_store.specs.declared.local.Gated as gated_types
 use Rattle.gated_store.specs.declared.store.GatedStore.{GatedStore}
-use Rattle.hub_store.specs.Changes.{trail_in, told_in}
+use Rattle.hub_store.specs.Changes.{told_in}
 use Rattle.hub_store.specs.Origin.{Origin}
 use Rattle.hub_store.specs.Trail.{Said}
 use Rattle.hub_store.specs.declared.start.Start as starts
 use Rattle.many_rules.specs.Rules.{Rules, pairs_of}
-use Rattle.node_core.specs.Growing.{Grows}
+use Rattle.node_core.specs.Growing.{GrowsOn}
 use Rattle.node_core.specs.Running.{IsRunning}
 use Rattle.request_reader.specs.Line.{Request}
 use Rattle.run_rules.specs.Rules.{count_told}
@@ -32,11 +32,12 @@ pub record IsServing {V L : Type 0} {G : sites.Ghosts V} {K : starts.Ghosts (gat
   pub said : HasSaid rules.requests (told_in store.logs) queues
 
 -- What a call leaves of a store, whatever it comes to: a site that tells told before, the length below which logs stay is the same, it heard of
--- no earlier moment, no count of faults fell, and what was settled stays so.
-pub record GoesOn {V L : Type 0} {G : sites.Ghosts V} {K : starts.Ghosts (gated_types.Gated L)} (old new : GatedStore V L G K) : Type 0 where
+-- no earlier moment, no count of faults fell, and what was settled stays so, and more may have come behind it, between the moments heard of
+-- before and by then.
+pub record GoesOn {V L : Type 0} {G : sites.Ghosts V} {K : starts.Ghosts (gated_types.Gated L)} (rules : Rules) (old new : GatedStore V L G K) : Type 0 where
   pub tells : G.tells new.logs.site → G.tells old.logs.site
   pub segment : new.logs.segment ≡ old.logs.segment
   pub latest : old.logs.latest ≤ new.logs.latest
   pub disk_faults : G.disk_faults old.logs.site ≤ G.disk_faults new.logs.site
   pub say_faults : G.say_faults old.logs.site ≤ G.say_faults new.logs.site
-  pub grows : Grows (trail_in old.logs) (trail_in new.logs)
+  pub grows : GrowsOn rules old new

@@ -1,6 +1,6 @@
 //! What clients are told, and what they ask.
 
-ghost use Rattle.std.specs.Prelude.{◌≡◌, ◌≢◌, ◌≤◌, ◌<◌, false, drop, length, Err, IfErr, IfOk, OnOk};
+ghost use Rattle.std.specs.Prelude.{◌≡◌, ◌≢◌, ◌≤◌, ◌<◌, ◌+◌, false, drop, length, Err, IfErr, IfOk, OnOk};
 ghost use Rattle.cell_frames.specs.Joined.{StoreView};
 ghost use Rattle.hub_store.specs.Changes.{trail_in};
 ghost use Rattle.round_steps.specs.Labels.{settled_labels};
@@ -9,6 +9,7 @@ ghost use Rattle.node_core.specs.Halts.{IsPast, RisesFor};
 ghost use Rattle.node_core.specs.Running.{Keeps};
 ghost use Rattle.world_steps.specs.Cells.{AllJoined};
 
+use crate::course::Seen;
 use crate::labels::reached_since;
 use cell_frames::Seat;
 use client_port::Port;
@@ -34,7 +35,7 @@ fn tell_next<V: Site, M: Picked>(
     client: &Name,
 ) -> Result<bool, Halt>
     requires serving { IsServing M.origin M.rules store.old cells.now.items port.old }
-    ensures goes { GoesOn store.old store.new }
+    ensures goes { GoesOn M.rules store.old store.new }
     ensures kept { Keeps M.origin M.rules store.new }
     ensures whole { result ≢ Err Halt.SayFault → store.new.logs.cut ≡ false }
     ensures serving { OnOk result (IsServing M.origin M.rules store.new cells.now.items port.new) }
@@ -70,7 +71,7 @@ fn tell<V: Site, M: Picked>(
     client: &Name,
 ) -> Result<(), Halt>
     requires serving { IsServing M.origin M.rules store.old cells.now.items port.old }
-    ensures goes { GoesOn store.old store.new }
+    ensures goes { GoesOn M.rules store.old store.new }
     ensures kept { Keeps M.origin M.rules store.new }
     ensures whole { result ≢ Err Halt.SayFault → store.new.logs.cut ≡ false }
     ensures serving { OnOk result (IsServing M.origin M.rules store.new cells.now.items port.new) }
@@ -129,7 +130,7 @@ fn serve_client<V: Site, M: Picked>(
     client: &Name,
 ) -> Result<(), Halt>
     requires serving { IsServing M.origin M.rules store.old cells.old.items port.old }
-    ensures goes { GoesOn store.old store.new }
+    ensures goes { GoesOn M.rules store.old store.new }
     ensures kept { Keeps M.origin M.rules store.new }
     ensures whole { result ≢ Err Halt.SayFault → store.new.logs.cut ≡ false }
     ensures serving { OnOk result (IsServing M.origin M.rules store.new cells.new.items port.new) }
@@ -157,7 +158,7 @@ pub fn serve_all<V: Site, M: Picked>(
     clients: &[Name],
 ) -> Result<(), Halt>
     requires serving { IsServing M.origin M.rules store.old cells.old.items port.old }
-    ensures goes { GoesOn store.old store.new }
+    ensures goes { GoesOn M.rules store.old store.new }
     ensures kept { Keeps M.origin M.rules store.new }
     ensures whole { result ≢ Err Halt.SayFault → store.new.logs.cut ≡ false }
     ensures serving { OnOk result (IsServing M.origin M.rules store.new cells.new.items port.new) }
@@ -181,10 +182,10 @@ pub fn serve_reached<V: Site, M: Picked>(
     store: &mut GatedStore<V, ByRules<M>>,
     cells: &mut Vec<Cell<Seat<M>>>,
     port: &mut Port,
-    seen: &mut usize,
+    seen: &mut Seen,
 ) -> Result<u64, Halt>
     requires serving { IsServing M.origin M.rules store.old cells.old.items port.old }
-    ensures goes { GoesOn store.old store.new }
+    ensures goes { GoesOn M.rules store.old store.new }
     ensures kept { Keeps M.origin M.rules store.new }
     ensures whole { result ≢ Err Halt.SayFault → store.new.logs.cut ≡ false }
     ensures serving { OnOk result (IsServing M.origin M.rules store.new cells.new.items port.new) }
@@ -195,13 +196,19 @@ pub fn serve_reached<V: Site, M: Picked>(
     ensures clock { result ≢ Err Halt.ClockFault }
     ensures latest { store.new.logs.latest ≡ store.old.logs.latest }
     ensures trail { trail_in store.new.logs ≡ trail_in store.old.logs }
-    ensures labels { IfOk result (λ n. n ≡ settled_labels (drop seen.old (trail_in store.old.logs))) }
-    ensures seen { OnOk result (seen.new ≡ length (trail_in store.old.logs)) }
+    ensures labels { IfOk result (λ n. n ≡ settled_labels
+        (drop seen.old.entries (trail_in store.old.logs))) }
+    ensures seen { OnOk result (seen.new.entries ≡ length (trail_in store.old.logs)) }
+    ensures adds { IfOk result (λ n. seen.new.labels ≡ seen.old.labels + n) }
 {
-    let Ok((reached, labels, now)) = reached_since(alloc, store, *seen) else {
+    let Ok((reached, labels, now)) = reached_since(alloc, store, seen.entries) else {
         return Err(Halt::Memory);
     };
-    *seen = now;
+    let Some(all) = seen.labels.checked_add(labels) else {
+        return Err(Halt::Memory);
+    };
+    seen.entries = now;
+    seen.labels = all;
     let served = serve_all(alloc, store, cells, port, &reached);
     drop(reached);
     match served {

@@ -20,6 +20,15 @@ pub struct Pace {
     pub seed: u32,
 }
 
+/// How much of what was settled was looked at.
+#[derive(Clone, Copy, Drop, PartialEq, Eq)]
+pub struct Seen {
+    /// How many entries of the trail.
+    pub entries: usize,
+    /// How many labels these are.
+    pub labels: u64,
+}
+
 /// What a call has beside its store and its cells.
 #[derive(Drop)]
 pub struct Course {
@@ -31,10 +40,8 @@ pub struct Course {
     pub port: Port,
     /// Of each node how many activities it ran.
     pub runs: Vec<u64>,
-    /// How many entries of the trail were looked at.
-    pub seen: usize,
-    /// How many labels these are.
-    pub labels: u64,
+    /// How much of the trail was looked at.
+    pub seen: Seen,
     /// Whether packets may be lacking somewhere.
     pub lacking: bool,
     /// Whether packets are disturbed on their way.
@@ -52,7 +59,6 @@ impl Course {
             port,
             runs,
             seen: _,
-            labels: _,
             lacking: _,
             disturbed: _,
         } = self;

@@ -63,15 +63,6 @@ fn labels_of_all(trail: &[Settled]) -> Result<u64, AllocError>
     Ok(labels)
 }
 
-/// How many labels were settled, counted anew.
-pub fn count_labels<V: Site, M: Picked>(
-    store: &GatedStore<V, ByRules<M>>,
-) -> Result<u64, AllocError>
-    ensures { IfOk result (λ n. n ≡ settled_labels (trail_in store.now.logs)) }
-{
-    labels_of_all(store.settled())
-}
-
 /// The clients that the items of an entry reached come behind others.
 fn note_reached(items: &[Item], reached: &mut Vec<Name>) -> Result<(), AllocError> {
     'items: for item in items {

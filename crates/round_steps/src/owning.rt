@@ -2,8 +2,8 @@
 
 ghost use Rattle.std.specs.Prelude.{◌≡◌, ◌≢◌, ◌<◌, false, Err, IfErr, OnOk};
 ghost use Rattle.round_steps.specs.Serving.{GoesOn, IsServing};
-ghost use Rattle.hub_store.specs.Changes.{KeepsAll, trail_in};
-ghost use Rattle.node_core.specs.Growing.{Grows};
+ghost use Rattle.hub_store.specs.Changes.{KeepsAll};
+ghost use Rattle.node_core.specs.Growing.{GrowsOn};
 ghost use Rattle.node_core.specs.Halts.{IsPast, IsSilent, RisesFor};
 ghost use Rattle.node_core.specs.Running.{IsRunning, Keeps};
 
@@ -32,7 +32,7 @@ fn own<V: Site, M: Picked>(
     requires running { IsRunning M.origin M.rules store.old cells.old.items }
     requires place { part < M.rules.count }
     ensures keeps { KeepsAll store.old.logs store.new.logs }
-    ensures grows { Grows (trail_in store.old.logs) (trail_in store.new.logs) }
+    ensures grows { GrowsOn M.rules store.old store.new }
     ensures kept { Keeps M.origin M.rules store.new }
     ensures running { OnOk result (IsRunning M.origin M.rules store.new cells.new.items) }
     ensures rises { IfErr result (RisesFor (V.disk_faults store.old.logs.site)
@@ -71,7 +71,7 @@ fn own_part<V: Site, M: Picked>(
 ) -> Result<(), Halt>
     requires serving { IsServing M.origin M.rules store.old cells.old.items course.old.port }
     requires place { part < M.rules.count }
-    ensures goes { GoesOn store.old store.new }
+    ensures goes { GoesOn M.rules store.old store.new }
     ensures kept { Keeps M.origin M.rules store.new }
     ensures whole { result ≢ Err Halt.SayFault → store.new.logs.cut ≡ false }
     ensures serving { OnOk result (IsServing M.origin M.rules store.new cells.new.items course.new.port) }
@@ -81,6 +81,7 @@ fn own_part<V: Site, M: Picked>(
     ensures past { IfErr result (IsPast M.rules store.new) }
     ensures clock { result ≢ Err Halt.ClockFault }
     ensures latest { store.new.logs.latest ≡ store.old.logs.latest }
+    ensures seen { course.new.seen ≡ course.old.seen }
 {
     if !own(alloc, store, cells, &mut course.transport, part, node, mode)? {
         course.lacking = true;
@@ -97,7 +98,7 @@ pub fn own_all<V: Site, M: Picked>(
     mode: Mode,
 ) -> Result<(), Halt>
     requires serving { IsServing M.origin M.rules store.old cells.old.items course.old.port }
-    ensures goes { GoesOn store.old store.new }
+    ensures goes { GoesOn M.rules store.old store.new }
     ensures kept { Keeps M.origin M.rules store.new }
     ensures whole { result ≢ Err Halt.SayFault → store.new.logs.cut ≡ false }
     ensures serving { OnOk result (IsServing M.origin M.rules store.new cells.new.items course.new.port) }
@@ -107,6 +108,7 @@ pub fn own_all<V: Site, M: Picked>(
     ensures past { IfErr result (IsPast M.rules store.new) }
     ensures clock { result ≢ Err Halt.ClockFault }
     ensures latest { store.new.logs.latest ≡ store.old.logs.latest }
+    ensures seen { course.new.seen ≡ course.old.seen }
 {
     let count = cells.len() as u32;
     'parts: for part in 0..count {
@@ -127,7 +129,7 @@ fn follow_part<V: Site, M: Picked>(
 ) -> Result<bool, Halt>
     requires serving { IsServing M.origin M.rules store.old cells.old.items course.old.port }
     requires place { part < M.rules.count }
-    ensures goes { GoesOn store.old store.new }
+    ensures goes { GoesOn M.rules store.old store.new }
     ensures kept { Keeps M.origin M.rules store.new }
     ensures whole { result ≢ Err Halt.SayFault → store.new.logs.cut ≡ false }
     ensures serving { OnOk result (IsServing M.origin M.rules store.new cells.new.items course.new.port) }
@@ -137,6 +139,7 @@ fn follow_part<V: Site, M: Picked>(
     ensures past { IfErr result (IsPast M.rules store.new) }
     ensures clock { result ≢ Err Halt.ClockFault }
     ensures latest { store.new.logs.latest ≡ store.old.logs.latest }
+    ensures seen { course.new.seen ≡ course.old.seen }
 {
     let Some(node) = course.crew.next_owner(part, store.turns()) else {
         return Ok(false);
@@ -156,7 +159,7 @@ pub fn follow_plan<V: Site, M: Picked>(
     mode: Mode,
 ) -> Result<bool, Halt>
     requires serving { IsServing M.origin M.rules store.old cells.old.items course.old.port }
-    ensures goes { GoesOn store.old store.new }
+    ensures goes { GoesOn M.rules store.old store.new }
     ensures kept { Keeps M.origin M.rules store.new }
     ensures whole { result ≢ Err Halt.SayFault → store.new.logs.cut ≡ false }
     ensures serving { OnOk result (IsServing M.origin M.rules store.new cells.new.items course.new.port) }
@@ -166,6 +169,7 @@ pub fn follow_plan<V: Site, M: Picked>(
     ensures past { IfErr result (IsPast M.rules store.new) }
     ensures clock { result ≢ Err Halt.ClockFault }
     ensures latest { store.new.logs.latest ≡ store.old.logs.latest }
+    ensures seen { course.new.seen ≡ course.old.seen }
 {
     let count = cells.len() as u32;
     let mut went = false;

@@ -39,6 +39,7 @@ fn turn_part<M: Picked, R: Reactions>(
     requires flows { R.flows reactions.now ≡ M.rules.flows }
     requires some { 0 < pace.now.batch }
     requires few { pace.now.batch ≤ 64 }
+    requires bound { pace.now.batch ≤ M.rules.most }
     requires place { part < length cells.old.items }
     ensures many { length cells.new.items ≡ length cells.old.items }
     ensures joined { (s : StoreView) → AllJoined M.rules s cells.old.items
@@ -71,6 +72,7 @@ fn step_part<M: Picked, R: Reactions>(
     requires flows { R.flows reactions.now ≡ M.rules.flows }
     requires some { 0 < pace.now.batch }
     requires few { pace.now.batch ≤ 64 }
+    requires bound { pace.now.batch ≤ M.rules.most }
     requires place { part < length cells.old.items }
     ensures many { length cells.new.items ≡ length cells.old.items }
     ensures joined { (s : StoreView) → AllJoined M.rules s cells.old.items
@@ -103,6 +105,7 @@ fn step_one<M: Picked, R: Reactions>(
     requires flows { R.flows reactions.now ≡ M.rules.flows }
     requires some { 0 < pace.now.batch }
     requires few { pace.now.batch ≤ 64 }
+    requires bound { pace.now.batch ≤ M.rules.most }
     requires place { part < length cells.old.items }
     ensures many { length cells.new.items ≡ length cells.old.items }
     ensures joined { (s : StoreView) → AllJoined M.rules s cells.old.items
@@ -142,6 +145,7 @@ pub fn step_all<M: Picked, R: Reactions>(
     requires flows { R.flows reactions.now ≡ M.rules.flows }
     requires some { 0 < pace.now.batch }
     requires few { pace.now.batch ≤ 64 }
+    requires bound { pace.now.batch ≤ M.rules.most }
     requires place { length cells.old.items ≤ 32 }
     ensures many { length cells.new.items ≡ length cells.old.items }
     ensures joined { (s : StoreView) → AllJoined M.rules s cells.old.items
@@ -169,7 +173,7 @@ fn commit_once<V: Site, M: Picked>(
     mode: Mode,
 ) -> Result<bool, Halt>
     requires serving { IsServing M.origin M.rules store.old cells.old.items course.old.port }
-    ensures goes { GoesOn store.old store.new }
+    ensures goes { GoesOn M.rules store.old store.new }
     ensures kept { Keeps M.origin M.rules store.new }
     ensures whole { result ≢ Err Halt.SayFault → store.new.logs.cut ≡ false }
     ensures serving { OnOk result (IsServing M.origin M.rules store.new cells.new.items course.new.port) }
@@ -204,7 +208,7 @@ pub fn commit_all<V: Site, M: Picked>(
     mode: Mode,
 ) -> Result<(), Halt>
     requires serving { IsServing M.origin M.rules store.old cells.old.items course.old.port }
-    ensures goes { GoesOn store.old store.new }
+    ensures goes { GoesOn M.rules store.old store.new }
     ensures kept { Keeps M.origin M.rules store.new }
     ensures whole { result ≢ Err Halt.SayFault → store.new.logs.cut ≡ false }
     ensures serving { OnOk result (IsServing M.origin M.rules store.new cells.new.items course.new.port) }
@@ -239,7 +243,8 @@ pub fn step_and_commit<V: Site, M: Picked, R: Reactions>(
     requires flows { R.flows reactions.now ≡ M.rules.flows }
     requires some { 0 < pace.now.batch }
     requires few { pace.now.batch ≤ 64 }
-    ensures goes { GoesOn store.old store.new }
+    requires bound { pace.now.batch ≤ M.rules.most }
+    ensures goes { GoesOn M.rules store.old store.new }
     ensures kept { Keeps M.origin M.rules store.new }
     ensures whole { result ≢ Err Halt.SayFault → store.new.logs.cut ≡ false }
     ensures serving { OnOk result (IsServing M.origin M.rules store.new cells.new.items course.new.port) }
@@ -269,7 +274,8 @@ fn make_and_commit<V: Site, M: Picked, R: Reactions>(
     requires flows { R.flows reactions.now ≡ M.rules.flows }
     requires some { 0 < pace.now.batch }
     requires few { pace.now.batch ≤ 64 }
-    ensures goes { GoesOn store.old store.new }
+    requires bound { pace.now.batch ≤ M.rules.most }
+    ensures goes { GoesOn M.rules store.old store.new }
     ensures kept { Keeps M.origin M.rules store.new }
     ensures whole { result ≢ Err Halt.SayFault → store.new.logs.cut ≡ false }
     ensures serving { OnOk result (IsServing M.origin M.rules store.new cells.new.items course.new.port) }
@@ -279,6 +285,7 @@ fn make_and_commit<V: Site, M: Picked, R: Reactions>(
     ensures past { IfErr result (IsPast M.rules store.new) }
     ensures clock { result ≢ Err Halt.ClockFault }
     ensures latest { store.new.logs.latest ≡ store.old.logs.latest }
+    ensures seen { course.new.seen ≡ course.old.seen }
 {
     let (often, most) = if pace.mode == Mode::None {
         (MOST_TURNS, 1)
@@ -309,7 +316,8 @@ pub fn round<V: Site, M: Picked, R: Reactions, A: Activities>(
     requires flows { R.flows reactions.now ≡ M.rules.flows }
     requires some { 0 < pace.now.batch }
     requires few { pace.now.batch ≤ 64 }
-    ensures goes { GoesOn store.old store.new }
+    requires bound { pace.now.batch ≤ M.rules.most }
+    ensures goes { GoesOn M.rules store.old store.new }
     ensures kept { Keeps M.origin M.rules store.new }
     ensures whole { result ≢ Err Halt.SayFault → store.new.logs.cut ≡ false }
     ensures serving { OnOk result (IsServing M.origin M.rules store.new cells.new.items course.new.port) }
@@ -319,6 +327,7 @@ pub fn round<V: Site, M: Picked, R: Reactions, A: Activities>(
     ensures past { IfErr result (IsPast M.rules store.new) }
     ensures clock { result ≢ Err Halt.ClockFault }
     ensures latest { store.new.logs.latest ≡ store.old.logs.latest }
+    ensures seen { course.new.seen ≡ course.old.seen }
 {
     make_and_commit(alloc, reactions, store, cells, course, pace)?;
     let turns = store.turns();

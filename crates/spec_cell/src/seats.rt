@@ -78,6 +78,16 @@ impl<S: Mine> Cell<S> {
         self.out
     }
 
+    /// How many entries it holds that aren't settled.
+    pub fn held(&self) -> usize
+        ensures { result ≡ length self.entry.now.entries }
+    {
+        match &self.live {
+            Some(live) => live.steps.len(),
+            None => 0,
+        }
+    }
+
     /// The incarnation that makes entries, or 0 where memory ran out.
     pub fn incarnation(&self) -> u64
         ensures { result ≡ self.entry.now.incarnation }

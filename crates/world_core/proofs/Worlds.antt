@@ -53,6 +53,7 @@ module _ (rules : Rules) (old : WorldView) (stands : Stands rules old) where
   alive cells packets going many keeps = record {
     some = stands.some;
     few = stands.few;
+    most = stands.most;
     many = many ∙ stands.many;
     going = stands.going;
     whole = stands.whole;
@@ -65,6 +66,7 @@ module _ (rules : Rules) (old : WorldView) (stands : Stands rules old) where
   over cells packets marks same many = record {
     some = stands.some;
     few = stands.few;
+    most = stands.most;
     many = many ∙ stands.many;
     going = λ still. absurd (cc still);
     whole = λ still. absurd (cc still);
@@ -74,13 +76,14 @@ module _ (rules : Rules) (old : WorldView) (stands : Stands rules old) where
 
   -- the store changed
   pub alive_by : (new : WorldView) → length new.cells ≡ length old.cells → AreHeard rules new.store new.marks → new.halted ≡ false → new.cut ≡ false → AllJoined rules new.store new.cells → Stands rules new
-  alive_by new many heard halted cut joined = record { some = stands.some; few = stands.few; many = many ∙ stands.many; going = λ still. halted; whole = λ still. cut; joined = λ still. joined; heard = heard }
+  alive_by new many heard halted cut joined = record { some = stands.some; few = stands.few; most = stands.most; many = many ∙ stands.many; going = λ still. halted; whole = λ still. cut; joined = λ still. joined; heard = heard }
 
   -- the life is over by a call that may have changed it
   pub over_by : (new : WorldView) → new.ended ≡ true → length new.cells ≡ length old.cells → AreHeard rules new.store new.marks → Stands rules new
   over_by new ended many heard = record {
     some = stands.some;
     few = stands.few;
+    most = stands.most;
     many = many ∙ stands.many;
     going = λ still. no_both new.ended ended still;
     whole = λ still. no_both new.ended ended still;

@@ -48,11 +48,12 @@ world store cells packets marks ended = record {
 abbrev pub AreHeard : Rules → StoreView → List Marks → Type 0
 AreHeard rules s all = (marks : Marks) (read : Read) → Contains all marks → Contains marks.reads.items read → read.next ≤ read_by rules s read.source read.reader
 
--- There are 1 to 32 partitions, and a cell for each. While the life goes on no device call failed and no line was cut, and each cell is joined to the
+-- There are 1 to 32 partitions, and a cell for each, whose entries may have as many items as the format has. While the life goes on no device call failed and no line was cut, and each cell is joined to the
 -- store. What was ever known of the logs tells of no more reads than there were.
 pub record Stands (rules : Rules) (w : WorldView) : Type 0 where
   pub some : 0 < rules.count
   pub few : rules.count ≤ 32
+  pub most : 64 ≤ rules.most
   pub many : length w.cells ≡ rules.count
   pub going : w.ended ≡ false → w.halted ≡ false
   pub whole : w.ended ≡ false → w.cut ≡ false

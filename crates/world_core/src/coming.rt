@@ -188,6 +188,7 @@ pub(crate) fn fire<V: Site, M: Picked>(
     now: u64,
 ) -> Answer
     requires begun { HasBegun M.origin M.rules }
+    requires silent { M.rules.serves ≡ false }
     requires stands { Stands M.rules (world store.old life.old.cells.items
         life.old.packets.items life.old.marks.items life.old.ended) }
     requires going { life.old.ended ≡ false }

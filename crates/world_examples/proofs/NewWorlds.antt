@@ -46,7 +46,9 @@ cell_joined trail told none = record {
     ours = record { ours = λ k d low. absurd (omega (arith, low)); run = λ base is serves. absurd (cc serves) };
     waits = record { asked = λ serves. absurd (cc serves); run = λ base is serves. absurd (cc serves) };
     of_call = omega arith;
+    since = omega arith;
     timely = omega arith;
+    fresh = λ serves. absurd (cc serves);
     unlost = record { unlost = λ k entry is. absurd (cc is); latest = λ k d low. absurd (omega (arith, low)) };
     read = record { held = λ k d low. absurd (omega (arith, low)); waits = λ k d low. absurd (omega (arith, low)) };
   };
@@ -79,6 +81,7 @@ well_with trail told halted packets marks ended none have names on heard = recor
   stands = record {
     some = omega arith;
     few = omega arith;
+    most = omega arith;
     many = refl;
     going = on;
     whole = λ on. refl;

@@ -49,6 +49,8 @@ alone = record {
   recovered = [];
   begin = fresh;
   incarnations = λ partition. 0;
+  since = 0;
+  most = 64;
   requests = [];
   serves = false;
 }

@@ -41,18 +41,19 @@ first_heard rules s first known marks read inside there = elim (Contains-push_ca
 ]
 
 pub stands_first : {V L : Type 0} {G : sites.Ghosts V} {K : starts.Ghosts (gated_types.Gated L)} (rules : Rules) (old new : GatedStore V L G K) (states : List PartState) (incarnations : List ℕ) (cells : List CellView) (packets : List Packet) (first : Marks) (marks : List Marks)
-    → BeginsWith rules states incarnations → IsUntouched rules.count old → new.logs ≡ old.logs → new.ledgers ≡ old.ledgers → length cells ≡ rules.count → AllBegun incarnations cells → AreMarksOf rules (view_of old) first → marks ≡ first ∷ []
+    → BeginsWith rules states incarnations → rules.since ≡ 0 → 64 ≤ rules.most → old.logs.latest ≡ 0 → IsUntouched rules.count old → new.logs ≡ old.logs → new.ledgers ≡ old.ledgers → length cells ≡ rules.count → AllBegun incarnations 0 cells → AreMarksOf rules (view_of old) first → marks ≡ first ∷ []
     → Stands rules (world new cells packets marks false)
-stands_first rules old new states incarnations cells packets first marks begins untouched logs same many begun known marks_are =
+stands_first rules old new states incarnations cells packets first marks begins since most latest untouched logs same many begun known marks_are =
     let now = same_untouched rules.count old new logs same untouched in
     let heard : AreHeard rules (view_of old) marks = subst (AreHeard rules (view_of old)) (sym marks_are) (first_heard rules (view_of old) first known) in
     record {
       some = begins.some;
       few = begins.few;
+      most = most;
       many = many;
       going = λ on. now.going;
       whole = λ on. now.whole;
-      joined = λ on. all_joined rules new incarnations cells now many begins.from begun;
+      joined = λ on. all_joined rules new incarnations cells now many begins.from (ap (λ l. l.latest) logs ∙ latest ∙ sym since) (subst (λ (n : ℕ). AllBegun incarnations n cells) (sym since) begun);
       heard = λ one read inside there.
           subst (λ (t : List Settled). read.next ≤ (ledgers rules read.reader (of_part read.reader t)).nexts read.source) (sym (ap trail_in logs)) (heard one read inside there);
     }

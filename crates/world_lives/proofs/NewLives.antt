@@ -38,8 +38,8 @@ module _ {V L : Type 0} {G : sites.Ghosts V} {K : starts.Ghosts (gated_types.Gat
   pub current_first : (cells : List CellView) (packets : List Packet) → IsCurrent rules (world new cells packets marks false)
   current_first cells packets = ([], first, marks_are, known_now)
 
-  pub new_first : (incarnations : List ℕ) (cells : List CellView) (packets : List Packet) → AllBegun incarnations cells → packets ≡ [] → IsNewLife rules (world new cells packets marks false)
-  new_first incarnations cells packets begun none = record {
+  pub new_first : (incarnations : List ℕ) (cells : List CellView) (packets : List Packet) (since : ℕ) → AllBegun incarnations since cells → packets ≡ [] → IsNewLife rules (world new cells packets marks false)
+  new_first incarnations cells packets since begun none = record {
     settled = λ p c there. (begun p c there).2.mine;
     held = λ p c there. (begun p c there).2.entries;
     waits = λ p c there. (begun p c there).2.waits;

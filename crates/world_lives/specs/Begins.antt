@@ -8,4 +8,4 @@ use Rattle.open_logs.specs.declared.begun.Begun.{Begun}
 
 -- the rules of a life from what was recovered on, whose entries were accepted in this order: it serves nobody, and takes what comes
 abbrev pub rules_of : Flows → (count : ℕ) → Begun → List Commit → Rules
-rules_of flows count begun run = call_rules flows count begun run [] false
+rules_of flows count begun run = call_rules flows count begun run 0 64 [] false

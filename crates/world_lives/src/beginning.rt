@@ -1,6 +1,6 @@
 //! What a life begins with: what is known of the logs, and a cell for each partition.
 
-ghost use Rattle.std.specs.Prelude.{◌≡◌, ◌∷◌, [], false, IfOk};
+ghost use Rattle.std.specs.Prelude.{◌≡◌, ◌≤◌, ◌∷◌, [], false, IfOk};
 ghost use Rattle.call_begins.specs.Begins.{BeginsWith, IsUntouched};
 ghost use Rattle.cell_frames.specs.Begun.{HasBegun};
 ghost use Rattle.cell_frames.specs.Joined.{view_of};
@@ -61,6 +61,9 @@ pub(crate) fn begin_life<V: Site, M: Picked>(
     requires untouched { IsUntouched M.rules.count store.old }
     requires begins { BeginsWith M.rules states.items incarnations.now }
     requires count { M.rules.count ≡ shape.count }
+    requires since { M.rules.since ≡ 0 }
+    requires most { 64 ≤ M.rules.most }
+    requires latest { store.old.logs.latest ≡ 0 }
     ensures logs { store.new.logs ≡ store.old.logs }
     ensures kept { IsKept M.origin.count (ledgers M.rules) (readers M.rules) (Makes M.rules)
         store.new }
@@ -74,7 +77,7 @@ pub(crate) fn begin_life<V: Site, M: Picked>(
     ensures shape { IfOk result (λ life. (life.mode ≡ shape.mode) × (life.nodes ≡ shape.nodes)) }
 {
     let marks = first_known(alloc, store, shape.count)?;
-    let cells = cells_of(alloc, states, incarnations, store.settled(), shape.nodes)?;
+    let cells = cells_of(alloc, states, incarnations, 0, store.settled(), shape.nodes)?;
     Ok(Life {
         cells,
         packets: Vec::new(alloc),

@@ -58,6 +58,9 @@ fn live_over<V: Site, M: Picked, R: Reactions>(
     requires untouched { IsUntouched M.rules.count store }
     requires begins { BeginsWith M.rules states.items incarnations.now }
     requires count { M.rules.count ≡ shape.count }
+    requires since { M.rules.since ≡ 0 }
+    requires most { 64 ≤ M.rules.most }
+    requires latest { store.logs.latest ≡ 0 }
     requires none { answers.items ≡ [] }
     requires room { length deeds.items ≤ vec_capacity answers }
     ensures tells { V.tells result.site → V.tells store.logs.site }

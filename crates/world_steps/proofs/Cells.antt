@@ -47,15 +47,15 @@ pub each_ok : {A E : Type 0} (rules : Rules) (s : StoreView) (cells : List CellV
 each_ok rules s cells p c after (Ok a) P below value going is keeps all = set_alone rules s cells p after below all going (keeps a is (all p c (there_at cells p c below value)).1)
 each_ok rules s cells p c after (Err error) P below value going is keeps all = tt
 
--- a moment was handed to one, and the store hears of it
-pub fired_all : (rules : Rules) (s : StoreView) (cells : List CellView) (p : ℕ) (c after : CellView) (now : ℕ) → p < length cells → c ≡ get_or cells p c → after ≡ record c { now = max c.now now } → AllJoined rules s cells
+-- a moment was handed to one, and the store hears of it, where the call serves nobody
+pub fired_all : (rules : Rules) → rules.serves ≡ false → (s : StoreView) (cells : List CellView) (p : ℕ) (c after : CellView) (now : ℕ) → p < length cells → c ≡ get_or cells p c → after ≡ record c { now = max c.now now } → AllJoined rules s cells
     → AllJoined rules (record s { latest = max s.latest now }) (slice_set cells p after)
-fired_all rules s cells p c after now below value is all =
+fired_all rules silent s cells p c after now below value is all =
     let there = all p c (there_at cells p c below value) in
     let low : s.latest ≤ max s.latest now = omega arith in
     let above : now ≤ max s.latest now = omega arith in
-    set_joined rules s (record s { latest = max s.latest now }) cells p after below all (λ q apart other joined. heard_joined rules s q other joined (max s.latest now) low)
-    (ap (λ (v : CellView). v.going) is ∙ there.0) (fired_joined rules s p c there.1 now (max s.latest now) after above low is)
+    set_joined rules s (record s { latest = max s.latest now }) cells p after below all (λ q apart other joined. heard_joined rules s q other joined (max s.latest now) low (λ serves. absurd (let wrong : true ≡ false = sym serves ∙ silent in cc wrong)))
+    (ap (λ (v : CellView). v.going) is ∙ there.0) (fired_joined rules s p c there.1 now (max s.latest now) after above low (λ serves. absurd (let wrong : true ≡ false = sym serves ∙ silent in cc wrong)) is)
 
 -- a cell's state ahead is of its own partition
 pub ahead_number : (rules : Rules) (c : CellView) (ahead : Partition) → states_after rules.flows rules.count fresh rules.recovered ≡ Some rules.begin → IsAhead rules.flows rules.count (rules.begin c.number) c ahead → ahead.number ≡ c.number

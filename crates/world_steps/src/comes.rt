@@ -123,11 +123,14 @@ pub fn trim_at<M: Picked>(
 pub fn fire_at<M: Picked>(cells: &mut Vec<Cell<Seat<M>>>, part: u32, now: u64) -> usize
     requires place { part < length cells.old.items }
     ensures many { length cells.new.items ≡ length cells.old.items }
+    ensures moment { CellBecomes part cells.old.items cells.new.items
+        (λ c after. after ≡ record c { now = max c.now now }) }
     ensures fires { (s : StoreView) → AllJoined M.rules s cells.old.items
         → CellBecomes part cells.old.items cells.new.items
         (λ c after. (after ≡ record c { now = max c.now now })
         × CountsDue M.rules.flows M.rules.count (M.rules.begin c.number) c (max c.now now) result) }
-    ensures joined { (s : StoreView) → AllJoined M.rules s cells.old.items
+    ensures joined { M.rules.serves ≡ false
+        → (s : StoreView) → AllJoined M.rules s cells.old.items
         → AllJoined M.rules (record s { latest = max s.latest now }) cells.new.items }
 {
     let cell = &mut cells[part as usize];

@@ -25,6 +25,7 @@ pub fn turn_at<M: Picked, R: Reactions>(
     requires flows { R.flows reactions.now ≡ M.rules.flows }
     requires some { 0 < limit }
     requires most { limit ≤ 64 }
+    requires bound { limit ≤ M.rules.most }
     requires place { part < length cells.old.items }
     ensures many { length cells.new.items ≡ length cells.old.items }
     ensures turns { IfOk result (λ turned. CellBecomes part cells.old.items cells.new.items

@@ -24,6 +24,6 @@ states-preserved g c =
       place = ap (λ (n : ℕ). n + 1) inv.place ∙ sym (one_longer c.states.yielded state);
       many = ap length items ∙ one_longer before cell ∙ ap (λ (n : ℕ). n + 1) inv.many ∙ sym (one_longer c.states.yielded state);
       rest = append_assoc c.states.yielded (state ∷ []) left ∙ rest;
-      begun = subst (AllBegun numbers) (sym items)
-          (one_more_begun numbers before c.states.place (get_or numbers c.states.place 0) cell (inv.place ∙ sym inv.many) (slice_get-get_or numbers c.states.place 0 inside) c.cell_of-cell.ensures inv.begun);
+      begun = subst (AllBegun numbers c.args.since) (sym items)
+          (one_more_begun numbers c.args.since before c.states.place (get_or numbers c.states.place 0) cell (inv.place ∙ sym inv.many) (slice_get-get_or numbers c.states.place 0 inside) c.cell_of-cell.ensures inv.begun);
     }

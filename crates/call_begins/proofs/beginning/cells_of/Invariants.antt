@@ -8,5 +8,5 @@ invariant-states g l = record {
   place : l.place ≡ length l.yielded;
   many : length l.cells.items ≡ length l.yielded;
   rest : l.yielded ++ l.state-iterator.rest.items ≡ l.fn.states.items;
-  begun : AllBegun l.fn.incarnations l.cells.items;
+  begun : AllBegun l.fn.incarnations l.fn.since l.cells.items;
 }

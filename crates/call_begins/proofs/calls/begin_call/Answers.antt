@@ -1,8 +1,11 @@
-use Rattle.std.proofs.Common.{◌≡◌, ◌<◌, ◌∙◌, ℕ, List, [], Some, None, sym, ap, subst, slice_get}
+use Rattle.std.proofs.Common.{Vec, Global, ◌≡◌, ◌<◌, ◌∙◌, ℕ, List, [], Some, None, sym, ap, subst, slice_get}
 use Rattle.std.specs.Prelude.{IfOk}
+use Rattle.commit_gate.specs.Views.{floors_of}
 use Rattle.commit_gate.specs.declared.ledger.Ledger.{Ledger}
 use Rattle.dura_value.specs.Items.{Floor}
 use Rattle.gated_store.specs.Kept.{LedgerFits}
+use Rattle.hub_store.specs.Ways.{stage_of, way_of}
+use Rattle.hub_store.specs.declared.way.Way.{Way}
 use Rattle.many_rules.proofs.FirstLedgers.{streams_known}
 use Rattle.many_rules.specs.Ledgers.{ledgers, readers}
 use Rattle.many_rules.specs.Rules.{Rules}
@@ -32,13 +35,14 @@ call_over-requires-clause-untouched g c =
     let begun = c.args.begun in
     let e = c.in-Ok-begin.ensures in
     let l = c.in-Ok in
+    let r = c.raise.ensures in
     record {
-      trail = e.trail;
-      told = e.told;
-      rest = λ p below. e.rest p (subst (λ (n : ℕ). p < n) g.N.Named.counts below);
-      floors = λ p. ap (λ (f : ℕ → List Floor). f p) e.floors ∙ none_given_up c.args.count c.deref.result.now begun.pasts.items l.ledgers.items l.ensures.many c.requires.can.pasts l.ensures.show p;
-      going = e.going;
-      whole = e.whole;
+      trail = r.trail ∙ e.trail;
+      told = r.told ∙ e.told;
+      rest = λ p below. ap (λ (w : Vec Way Global). stage_of (way_of w.items p)) r.ways ∙ e.rest p (subst (λ (n : ℕ). p < n) g.N.Named.counts below);
+      floors = λ p. ap (λ (v : Vec Ledger Global). floors_of v.items p) r.ledgers ∙ ap (λ (f : ℕ → List Floor). f p) e.floors ∙ none_given_up c.args.count c.deref.result.now begun.pasts.items l.ledgers.items l.ensures.many c.requires.can.pasts l.ensures.show p;
+      going = r.halted ∙ e.going;
+      whole = r.whole ∙ e.whole;
     }
 
 pub call_over-requires-clause-begins : goal.call_over-requires-clause-begins
@@ -47,7 +51,7 @@ call_over-requires-clause-begins g c =
     let begun = c.args.begun in
     subst (λ (l : List ℕ). BeginsWith rules begun.states.items l) (sym c.deref-in-Ok-begin.ensures.value)
     (subst (λ (r : Rules). BeginsWith r begun.states.items begun.incarnations.items) (sym c.requires.rules)
-    (begins_with rules.flows c.args.count begun rules.recovered rules.requests rules.serves c.requires.some c.requires.few c.requires.can))
+    (begins_with rules.flows c.args.count begun rules.recovered c.args.since rules.most rules.requests rules.serves c.requires.some c.requires.few c.requires.can))
 
 pub returns-in-Ok-begin-clause-begun : goal.returns-in-Ok-begin-clause-begun
-returns-in-Ok-begin-clause-begun g c = subst (λ (l : List ℕ). IfOk c.call_over.result (λ call. AllBegun l call.cells.items)) c.deref-in-Ok-begin.ensures.value c.call_over.ensures.begun
+returns-in-Ok-begin-clause-begun g c = subst (λ (l : List ℕ). IfOk c.call_over.result (λ call. AllBegun l c.args.since call.cells.items)) c.deref-in-Ok-begin.ensures.value c.call_over.ensures.begun

@@ -9,6 +9,7 @@ use Rattle.cluster_run.proofs.Serves.{same_job}
 use Rattle.cluster_run.proofs.Sound.{rise_since, run_sound, unread_sound}
 use Rattle.cluster_run.proofs.cluster.run_cluster.Goals as goal
 use Rattle.command_words.specs.declared.words.RunOptions.{RunOptions}
+use Rattle.engine_rounds.specs.Heard.{heard_of}
 use Rattle.hub_store.specs.Trail.{Settled}
 use Rattle.open_logs.specs.Spent.{AreRefused}
 use Rattle.site_model.specs.Calls.{HasRisen}
@@ -22,7 +23,7 @@ returns-in-Ok-clause-comes g c = λ tells.
     let same = c.in-Ok.ensures.unchanged in
     let asks = (c.in-Ok.ensures.reads (e.tells tells)).0 in
     let own = subst (λ (s : List Step). Asks options.partitions options.nodes (λ file. content_of file s) (job_of c.in-Ok.input)) (sym same) asks in
-    inr (subst (λ (s : List Step). NotOpened options (λ file. content_of file s) s (g.V.Site.history r.site) r.trail r.cause ⊎ WasServed options (λ file. content_of file s) (g.C.Clock.latest r.clock) (g.V.Site.tells r.site) s (g.V.Site.history r.site) r.trail r.cause) same (e.comes tells own))
+    inr (subst (λ (s : List Step). NotOpened options (λ file. content_of file s) s (g.V.Site.history r.site) r.trail r.cause ⊎ WasServed options (λ file. content_of file s) (heard_of (g.C.Clock.given c.args.clock) (g.C.Clock.given r.clock) (g.C.Clock.latest r.clock)) (g.V.Site.tells r.site) s (g.V.Site.history r.site) r.trail r.cause) same (e.comes tells own))
 
 -- by why they are unfit
 left : (options : RunOptions) (old new : List Step) (trail : List Settled) (job : Job) → Asks options.partitions options.nodes (λ file. content_of file old) job
@@ -55,7 +56,7 @@ returns-in-Ok-clause-complete g c = λ tells fit none.
     let then = c.read_input.new.site in
     let mid = faults_of (g.V.Site.disk_faults then) (g.V.Site.say_faults then) (g.C.Clock.clock_faults c.args.clock) in
     let files : ℕ → List ℕ = λ file. content_of file (g.V.Site.history c.args.site) in
-    run_sound c.args.options files (g.C.Clock.latest r.clock) (g.V.Site.tells r.site) (g.V.Site.history c.args.site) (g.V.Site.history r.site) r.trail r.cause before after
+    run_sound c.args.options files (heard_of (g.C.Clock.given c.args.clock) (g.C.Clock.given r.clock) (g.C.Clock.latest r.clock)) (g.V.Site.tells r.site) (g.V.Site.history c.args.site) (g.V.Site.history r.site) r.trail r.cause before after
     (returns-in-Ok-clause-comes g c tells) (rise_since r.cause before mid after c.run_input.ensures.faults read.later read.say_faults (refl {a = g.C.Clock.clock_faults c.args.clock})) fit none
 
 pub returns-in-Err-clause-complete : goal.returns-in-Err-clause-complete

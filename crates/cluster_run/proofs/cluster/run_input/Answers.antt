@@ -5,6 +5,7 @@ use Rattle.cluster_run.proofs.Ends.{clock_fault, keeps_files, say_fault, site_fa
 use Rattle.cluster_run.proofs.Serves.{came_to, leaves}
 use Rattle.cluster_run.proofs.cluster.run_input.Goals as goal
 use Rattle.end_laws.proofs.FileAsked.{file_asked}
+use Rattle.engine_rounds.specs.Heard.{heard_of}
 use Rattle.hub_store.specs.Trail.{Settled}
 use Rattle.node_core.specs.declared.halt.Halt.TheVariants as halts
 use Rattle.run_causes.specs.declared.cause.Cause.{Cause}
@@ -21,12 +22,12 @@ returns-clause-comes g c = λ tells asks.
     let old = g.V.Site.history c.args.site in
     let files : ℕ → List ℕ = λ file. content_of file old in
     let told = subst g.V.Site.tells end.site tells in
-    let core = came_to options (job_of c.args.input) _ _ _ c.of-machines.ensures shape.count shape.digest old (g.V.Site.history r.site) r.trail _ _ (g.C.Clock.latest r.clock) (g.V.Site.tells r.site) r.came r.port c.cause_of-cause.result
-    c.requires.some (file_asked (files 1) (job_of c.args.input).requests asks.requests_in_file) shape.segment shape.steps c.cause_of-cause.ensures asks e.nothing (e.during told) (e.refused told) e.synced e.served in
-    subst (λ site. NotOpened options files old (g.V.Site.history site) c.end_with.result.trail c.end_with.result.cause ⊎ WasServed options files (g.C.Clock.latest c.end_with.result.clock) (g.V.Site.tells site) old (g.V.Site.history site) c.end_with.result.trail c.end_with.result.cause) (sym end.site)
-    (subst (λ (t : List Settled). NotOpened options files old (g.V.Site.history r.site) t c.end_with.result.cause ⊎ WasServed options files (g.C.Clock.latest c.end_with.result.clock) (g.V.Site.tells r.site) old (g.V.Site.history r.site) t c.end_with.result.cause) (sym end.trail)
-    (subst (λ (x : Cause). NotOpened options files old (g.V.Site.history r.site) r.trail x ⊎ WasServed options files (g.C.Clock.latest c.end_with.result.clock) (g.V.Site.tells r.site) old (g.V.Site.history r.site) r.trail x) (sym end.cause)
-    (subst (λ clock. NotOpened options files old (g.V.Site.history r.site) r.trail c.cause_of-cause.result ⊎ WasServed options files (g.C.Clock.latest clock) (g.V.Site.tells r.site) old (g.V.Site.history r.site) r.trail c.cause_of-cause.result) (sym end.clock) core)))
+    let core = came_to options (job_of c.args.input) _ _ _ c.of-machines.ensures shape.count shape.digest old (g.V.Site.history r.site) r.trail _ _ _ (heard_of (g.C.Clock.given c.args.clock) (g.C.Clock.given r.clock) (g.C.Clock.latest r.clock)) (g.V.Site.tells r.site) r.came r.port c.cause_of-cause.result
+    c.requires.some (file_asked (files 1) (job_of c.args.input).requests asks.requests_in_file) shape.segment shape.batch shape.steps c.cause_of-cause.ensures asks e.nothing (e.during told) (e.refused told) e.synced e.served in
+    subst (λ site. NotOpened options files old (g.V.Site.history site) c.end_with.result.trail c.end_with.result.cause ⊎ WasServed options files (heard_of (g.C.Clock.given c.args.clock) (g.C.Clock.given c.end_with.result.clock) (g.C.Clock.latest c.end_with.result.clock)) (g.V.Site.tells site) old (g.V.Site.history site) c.end_with.result.trail c.end_with.result.cause) (sym end.site)
+    (subst (λ (t : List Settled). NotOpened options files old (g.V.Site.history r.site) t c.end_with.result.cause ⊎ WasServed options files (heard_of (g.C.Clock.given c.args.clock) (g.C.Clock.given c.end_with.result.clock) (g.C.Clock.latest c.end_with.result.clock)) (g.V.Site.tells r.site) old (g.V.Site.history r.site) t c.end_with.result.cause) (sym end.trail)
+    (subst (λ (x : Cause). NotOpened options files old (g.V.Site.history r.site) r.trail x ⊎ WasServed options files (heard_of (g.C.Clock.given c.args.clock) (g.C.Clock.given c.end_with.result.clock) (g.C.Clock.latest c.end_with.result.clock)) (g.V.Site.tells r.site) old (g.V.Site.history r.site) r.trail x) (sym end.cause)
+    (subst (λ clock. NotOpened options files old (g.V.Site.history r.site) r.trail c.cause_of-cause.result ⊎ WasServed options files (heard_of (g.C.Clock.given c.args.clock) (g.C.Clock.given clock) (g.C.Clock.latest clock)) (g.V.Site.tells r.site) old (g.V.Site.history r.site) r.trail c.cause_of-cause.result) (sym end.clock) core)))
 
 pub returns-clause-clean : goal.returns-clause-clean
 returns-clause-clean g c = λ tells refused.

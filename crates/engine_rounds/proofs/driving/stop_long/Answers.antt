@@ -1,4 +1,4 @@
 use Rattle.engine_rounds.proofs.driving.stop_long.Goals as goal
 
-pub returns-then-rest-clause-ends : goal.returns-then-rest-clause-ends
-returns-then-rest-clause-ends g c = c.in-Ok.ensures.0 c.if-rest.true
+pub returns-in-Ok-true-clause-ends : goal.returns-in-Ok-true-clause-ends
+returns-in-Ok-true-clause-ends g c = c.in-Ok-true.ensures.0 c.in-Ok-true.field-0-test

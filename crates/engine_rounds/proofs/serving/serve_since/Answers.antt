@@ -3,6 +3,7 @@ use Rattle.call_begins.proofs.Going.{has_begun}
 use Rattle.call_begins.specs.Begins.{call_rules}
 use Rattle.client_order.specs.Clashes.{taken_in, NoClash}
 use Rattle.dura_value.specs.declared.messages.Request.{Request as OwnRequest}
+use Rattle.engine_rounds.proofs.Given.{begins_so, fault_then}
 use Rattle.engine_rounds.proofs.Opens.{stands_orderly, synced_memory, why_memory}
 use Rattle.engine_rounds.specs.Served.{refusal_in}
 use Rattle.engine_rounds.specs.declared.serving.Came.{Came}
@@ -34,7 +35,7 @@ pub serve_named-requires-clause-made : goal.serve_named-requires-clause-made
 serve_named-requires-clause-made g c = c.placed_by-placed.ensures.0
 
 pub serve_named-requires-clause-goes : goal.serve_named-requires-clause-goes
-serve_named-requires-clause-goes g c = has_begun (g.R.Reactions.flows c.args.reactions.now) c.args.shape.count c.args.shape.digest (g.V.Site.history c.open_logs.new.site) c.in-Ok.begun c.placed_by-placed.result.run (map request_of c.args.requests.items) true c.placed_by-placed.ensures.0
+serve_named-requires-clause-goes g c = has_begun (g.R.Reactions.flows c.args.reactions.now) c.args.shape.count c.args.shape.digest (g.V.Site.history c.open_logs.new.site) c.in-Ok.begun c.placed_by-placed.result.run c.first_moment-since.result.0 c.args.shape.pace.batch (map request_of c.args.requests.items) true c.placed_by-placed.ensures.0
 
 pub serve_named-requires-clause-origin : goal.serve_named-requires-clause-origin
 serve_named-requires-clause-origin g c = origin_is c.args.shape.count c.args.shape.digest (files_of c.in-Ok.begun.logs.items) (g.V.Site.history c.open_logs.new.site) (parts_in c.in-Ok.begun.states.items)
@@ -50,13 +51,20 @@ returns-in-Ok-clause-served g c = λ none.
     let requests = map request_of c.args.requests.items in
     let run = c.placed_by-placed.result.run in
     let made = c.placed_by-placed.ensures in
-    let rules = call_rules flows shape.count c.in-Ok.begun run requests true in
+    let since = c.first_moment-since.result.0 in
+    let moment_is = c.first_moment-since.ensures in
+    let rules = call_rules flows shape.count c.in-Ok.begun run since shape.pace.batch requests true in
     let before : ℕ → List ℕ = λ file. content_of file (g.V.Site.history c.args.site) in
     let theirs : g.V.Site.tells c.open_logs.new.site → AreTheirs shape.count shape.digest before run = λ told. subst (λ (steps : List Step). AreTheirs shape.count shape.digest (λ file. content_of file steps) run) c.requires.since (made.1 told) in
     record {
       begun = c.in-Ok.begun;
       run = run;
       steps = g.V.Site.history c.open_logs.new.site;
+      since = since;
+      begins =
+          let served = c.serve_named.result in
+          begins_so rules shape.pace.steps (g.C.Clock.given c.args.clock) (g.C.Clock.given c.first_moment-since.new.clock) (g.C.Clock.given served.clock) (g.C.Clock.latest served.clock) served.trail served.came since c.first_moment-since.result.1 moment_is.given moment_is.silent (e.by_clock none)
+          (λ not. e.unheard not none);
       made = made.0;
       no_clash = subst (λ (q : List OwnRequest). NoClash (taken_in shape.count (parts_in c.in-Ok.begun.states.items)) (map request_of q)) c.deref.ensures.value c.in-Ok.ensures.no_clash;
       causal = e.causal none;
@@ -75,7 +83,7 @@ returns-in-Ok-clause-served g c = λ none.
           let trail = settled_at moment c.serve_named.result.trail in
           let stands = order_stands rules other kept.states on.0 shape.digest origin (back_to moment steps) trail files kept.below
           (λ partition low. same_own shape.count shape.digest before run other made.0.below kept.below (theirs told) kept.kept partition) kept.made on.3.on in
-          let ordered = stands_orderly (call_rules flows shape.count c.in-Ok.begun other requests true) on.0 shape.digest origin (back_to moment steps) trail files stands in
+          let ordered = stands_orderly (call_rules flows shape.count c.in-Ok.begun other since shape.pace.batch requests true) on.0 shape.digest origin (back_to moment steps) trail files stands in
           (on.0, on.1, ordered.0, ordered.1);
       short = λ tells. e.short tells none;
       on = e.on none;
@@ -94,6 +102,12 @@ returns-in-Ok-clause-halts g c = λ halt came.
     let now = c.serve_named.result.site in
     let say = c.open_logs.ensures.say_faults in
     rises_later (g.V.Site.disk_faults before) (g.V.Site.say_faults before) (g.V.Site.disk_faults opened) (g.V.Site.say_faults opened) (g.V.Site.disk_faults now) (g.V.Site.say_faults now) halt c.open_logs.ensures.later e.later.0 (omega (arith, say)) e.later.1 (e.halts halt came)
+
+pub returns-in-Ok-clause-clock_fault : goal.returns-in-Ok-clause-clock_fault
+returns-in-Ok-clause-clock_fault g c = λ came.
+    let first = c.first_moment-since.ensures in
+    let e = c.serve_named.ensures in
+    fault_then (g.C.Clock.clock_faults c.args.clock) (g.C.Clock.clock_faults c.first_moment-since.new.clock) (g.C.Clock.clock_faults c.serve_named.result.clock) c.first_moment-since.result.1 first.ticks e.ticks first.fault (λ was. e.clock_fault was came)
 
 pub returns-in-Err-clause-fault : goal.returns-in-Err-clause-fault
 returns-in-Err-clause-fault g c = λ came.

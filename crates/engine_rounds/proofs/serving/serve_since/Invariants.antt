@@ -15,6 +15,6 @@ ghosts-placed_by g a = record {
 abbrev pub ghosts-serve_named : goal.ghosts-serve_named
 ghosts-serve_named g a = record {
   origin = origin_of a.shape.count a.shape.digest (g.V.Site.history a.site) a.begun;
-  rules = call_rules (g.R.Reactions.flows a.reactions.now) a.shape.count a.begun a.placed.run (map request_of a.requests.items) true;
+  rules = call_rules (g.R.Reactions.flows a.reactions.now) a.shape.count a.begun a.placed.run a.since a.shape.pace.batch (map request_of a.requests.items) true;
   counts = refl;
 }

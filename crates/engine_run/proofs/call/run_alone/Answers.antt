@@ -12,6 +12,7 @@ use Rattle.engine_run.specs.Opened.{IsOpening}
 use Rattle.engine_run.specs.Prepared.{IsEarlyCause}
 use Rattle.engine_run.specs.Promises.{RunsOver, is_alone}
 use Rattle.engine_run.specs.Showing.{ShowsAs, WritesNothing}
+use Rattle.engine_rounds.specs.Heard.{heard_of}
 use Rattle.engine_run.proofs.Early.{differ}
 use Rattle.engine_run.proofs.Ending.{memory_no_site, memory_no_say, memory_no_clock}
 use Rattle.engine_run.proofs.Opens.{opening_first}
@@ -110,7 +111,7 @@ returns-else-is_alone g c =
         refused = λ tells options asked. absurd (never_both options own (run_same (call_in c.args.words.now) options own asked.0 is_run) asked.1 over);
         settles_nothing = λ is. ran.nothing (subst (λ call. SettlesNothing call end.cause) is_run is);
         headline = λ tells options asked. absurd (never_both options own (run_same (call_in c.args.words.now) options own asked.0 is_run) asked.1 over);
-        comes = λ tells options asked. subst (λ (o : RunOptions). ComesTo o files (g.C.Clock.latest end.clock) (g.V.Site.tells end.site) old now end.trail end.cause) (same options asked) (ran.comes tells);
+        comes = λ tells options asked. subst (λ (o : RunOptions). ComesTo o files (heard_of (g.C.Clock.given c.args.clock) (g.C.Clock.given end.clock) (g.C.Clock.latest end.clock)) (g.V.Site.tells end.site) old now end.trail end.cause) (same options asked) (ran.comes tells);
         keeps = λ options asked. subst (λ (o : RunOptions). KeepsFiles o.partitions old now end.cause) (same options asked) ran.untouched;
         unfit = λ tells options asked unfit. subst (λ (o : RunOptions). AreUnfit o files → LeavesLogs o.partitions old now end.trail) (same options asked) (ran.unfit tells) unfit;
         shows = λ tells partitions asked. absurd (run_no_show (call_in c.args.words.now) own partitions is asked);

@@ -5,7 +5,7 @@ use Rattle.many_examples.specs.Pairs.{first_entry, taking, coming_in}
 use Rattle.many_examples.specs.Placings.{states_of}
 use Rattle.many_examples.specs.RulesBy.{rules_with, first_asked}
 use Rattle.many_examples.proofs.RulesBy.{comes_in, takes}
-use Rattle.many_rules.specs.Rules.{rules_at, GoesFrom, IsOurs}
+use Rattle.many_rules.specs.Rules.{rules_at, IsFrom, GoesFrom, IsOurs}
 use Rattle.run_rules.specs.Rules.{IsAsked, IsBy}
 use Rattle.many_examples.proofs.rules_examples.entries_following.Goals as goal
 
@@ -15,7 +15,10 @@ returns-clause-coming c = λ flows. record {
   ours = All-from_recursion (IsOurs (rules_with flows) 0 [] 0) ((coming_in 0).entry ∷ []) (
     record {
       incarnation = omega arith;
+      some = omega arith;
+      few = omega arith;
       asked = λ serves. All-from_recursion (IsAsked (rules_at (rules_with flows) 0) []) (coming_in 0).entry.items (tt, tt);
+      since = All-from_recursion (IsFrom 0) (coming_in 0).entry.items (tt, tt);
       timely = All-from_recursion (IsBy 0) (coming_in 0).entry.items (tt, tt);
     },
     tt,
@@ -31,8 +34,11 @@ returns-clause-first c = λ flows. record {
   ours = All-from_recursion (IsOurs (rules_with flows) 0 [] 1) (taking.entry ∷ []) (
     record {
       incarnation = omega arith;
+      some = omega arith;
+      few = omega arith;
       asked = λ serves. All-from_recursion (IsAsked (rules_at (rules_with flows) 1) []) taking.entry.items
           (record { name = codes "a"; place = 0; request = first_asked; asked = refl; sends = refl; answered = omega arith }, tt);
+      since = All-from_recursion (IsFrom 0) taking.entry.items (tt, tt);
       timely = All-from_recursion (IsBy 0) taking.entry.items (tt, tt);
     },
     tt,

@@ -8,7 +8,7 @@ use Rattle.dura_value.specs.Ids.{client}
 use Rattle.dura_value.specs.Items.{Item, Entry, took, ran}
 use Rattle.many_examples.specs.Pairs.{asks, request, taking, coming_in}
 use Rattle.many_examples.specs.RulesBy.{later_rules, free_rules, first_asked, no_flows, unknown_rules, answering_at}
-use Rattle.many_rules.specs.Rules.{rules_at, GoesFrom, IsOurs}
+use Rattle.many_rules.specs.Rules.{rules_at, IsFrom, GoesFrom, IsOurs}
 use Rattle.run_rules.specs.Examples.{summing}
 use Rattle.run_rules.specs.Rules.{IsAsked, IsBy, EndsPending}
 use Rattle.many_examples.proofs.RulesBy.{takes}
@@ -23,8 +23,11 @@ returns-clause-other c = λ flows. record {
   ours = All-from_recursion (IsOurs (later_rules flows) 0 [] 1) (taking.entry ∷ []) (
     record {
       incarnation = omega arith;
+      some = omega arith;
+      few = omega arith;
       asked = λ serves. All-from_recursion (IsAsked (rules_at (later_rules flows) 1) []) taking.entry.items
           (record { name = codes "a"; place = 0; request = first_asked; asked = refl; sends = refl; answered = omega arith }, tt);
+      since = All-from_recursion (IsFrom 0) taking.entry.items (tt, tt);
       timely = All-from_recursion (IsBy 0) taking.entry.items (tt, tt);
     },
     tt,
@@ -41,7 +44,10 @@ returns-clause-unserved c = λ flows. record {
   ours = All-from_recursion (IsOurs (free_rules flows) 0 [] 1) (taking.entry ∷ []) (
     record {
       incarnation = omega arith;
+      some = omega arith;
+      few = omega arith;
       asked = λ serves. cc serves;
+      since = All-from_recursion (IsFrom 0) taking.entry.items (tt, tt);
       timely = All-from_recursion (IsBy 0) taking.entry.items (tt, tt);
     },
     tt,
@@ -101,8 +107,11 @@ returns-clause-by_then c = record {
   ours = All-from_recursion (IsOurs unknown_rules 5 [] 1) ((answering_at 5).entry ∷ []) (
     record {
       incarnation = omega arith;
+      some = omega arith;
+      few = omega arith;
       asked = λ serves. All-from_recursion (IsAsked (rules_at unknown_rules 1) []) (answering_at 5).entry.items
           (record { name = codes "a"; place = 0; request = record { client = codes "a"; number = 1; message = asks (codes "a") (codes "x") 1 }; asked = refl; sends = refl; answered = omega arith }, (tt, (tt, tt)));
+      since = All-from_recursion (IsFrom 0) (answering_at 5).entry.items (tt, (omega arith, (omega arith, tt)));
       timely = All-from_recursion (IsBy 5) (answering_at 5).entry.items (tt, (omega arith, (omega arith, tt)));
     },
     tt,

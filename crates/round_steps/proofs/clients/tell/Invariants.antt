@@ -6,7 +6,7 @@ use Rattle.round_steps.proofs.clients.tell.Given as goal
 -- the call goes on
 abbrev pub invariant-answers : goal.invariant-answers
 invariant-answers g l = record {
-  goes : GoesOn l.fn.store l.store;
+  goes : GoesOn g.M.Picked.rules l.fn.store l.store;
   serving : IsServing g.M.Picked.origin g.M.Picked.rules l.store l.cells.items l.port;
   latest : l.store.logs.latest ≡ l.fn.store.logs.latest;
   trail : trail_in l.store.logs ≡ trail_in l.fn.store.logs;

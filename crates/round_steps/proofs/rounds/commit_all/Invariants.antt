@@ -5,7 +5,7 @@ use Rattle.round_steps.proofs.rounds.commit_all.Given as goal
 -- the call goes on
 abbrev pub invariant-waves : goal.invariant-waves
 invariant-waves g l = record {
-  goes : GoesOn l.fn.store l.store;
+  goes : GoesOn g.M.Picked.rules l.fn.store l.store;
   serving : IsServing g.M.Picked.origin g.M.Picked.rules l.store l.cells.items l.course.port;
   latest : l.store.logs.latest ≡ l.fn.store.logs.latest;
   seen : l.course.seen ≡ l.fn.course.seen;

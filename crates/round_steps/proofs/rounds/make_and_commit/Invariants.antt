@@ -5,7 +5,8 @@ use Rattle.round_steps.proofs.rounds.make_and_commit.Given as goal
 -- the call goes on
 abbrev pub invariant-turns : goal.invariant-turns
 invariant-turns g l = record {
-  goes : GoesOn l.fn.store l.store;
+  goes : GoesOn g.M.Picked.rules l.fn.store l.store;
   serving : IsServing g.M.Picked.origin g.M.Picked.rules l.store l.cells.items l.course.port;
   latest : l.store.logs.latest ≡ l.fn.store.logs.latest;
+  seen : l.course.seen ≡ l.fn.course.seen;
 }

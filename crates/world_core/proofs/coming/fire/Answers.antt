@@ -14,7 +14,7 @@ returns-clause-stands g c =
     let view = raised old new (max old.logs.latest c.args.now) r.latest r.trail r.told r.ways r.ledgers in
     alive_by rules _ c.requires.stands _ c.fire_at.ensures.many (still_heard rules (view_of old) (view_of new) c.args.life.now.marks.items (λ source reader. same_reads rules source (view_of old) (view_of new) r.trail reader) c.requires.stands.heard)
     (r.halted ∙ c.requires.stands.going c.requires.going) (r.whole ∙ c.requires.stands.whole c.requires.going)
-    (subst (λ (s : StoreView). AllJoined rules s c.fire_at.new.cells.items) (sym view) (c.fire_at.ensures.joined (view_of old) (c.requires.stands.joined c.requires.going)))
+    (subst (λ (s : StoreView). AllJoined rules s c.fire_at.new.cells.items) (sym view) (c.fire_at.ensures.joined c.requires.silent (view_of old) (c.requires.stands.joined c.requires.going)))
 
 pub returns-clause-makes : goal.returns-clause-makes
 returns-clause-makes g c =

@@ -1,7 +1,10 @@
-use Rattle.std.proofs.Common.{refl, sym, subst}
+use Rattle.std.proofs.Common.{refl, sym, subst, arith}
 use Rattle.world_core.proofs.Worlds.{alive, over_by}
 use Rattle.world_core.specs.World.{Stands, world}
 use Rattle.world_core.proofs.working.turn.Goals as goal
+
+pub turn_at-requires-clause-bound : goal.turn_at-requires-clause-bound
+turn_at-requires-clause-bound g c = let most = c.requires.stands.most in let few = c.requires.most in omega (arith, most, few)
 
 pub returns-in-Ok-clause-stands : goal.returns-in-Ok-clause-stands
 returns-in-Ok-clause-stands g c = alive g.M.Picked.rules _ c.requires.stands _ _ c.requires.going c.turn_at.ensures.many (c.in-Ok-Turned.ensures.joined _)

@@ -1,4 +1,4 @@
-use Rattle.std.proofs.Common.{◌≡◌, ◌<◌, ◌∙◌, ℕ, false, List, [], Some, None, sym, ap, subst, slice_get}
+use Rattle.std.proofs.Common.{◌≡◌, ◌≤◌, ◌<◌, ◌∙◌, arith, ℕ, false, List, [], Some, None, sym, ap, subst, slice_get}
 use Rattle.call_begins.specs.Begins.{AreLedgersOf, BeginsWith}
 use Rattle.call_begins.proofs.Going.{begins_with}
 use Rattle.call_begins.proofs.Ledgers.{ledgers_fit, none_given_up}
@@ -47,9 +47,15 @@ live_over-requires-clause-untouched g c =
 pub live_over-requires-clause-silent : goal.live_over-requires-clause-silent
 live_over-requires-clause-silent g c = ap (λ (r : Rules). r.serves) c.requires.rules
 
+pub live_over-requires-clause-since : goal.live_over-requires-clause-since
+live_over-requires-clause-since g c = ap (λ (r : Rules). r.since) c.requires.rules
+
+pub live_over-requires-clause-most : goal.live_over-requires-clause-most
+live_over-requires-clause-most g c = let most : g.N.Named.rules.most ≡ 64 = ap (λ (r : Rules). r.most) c.requires.rules in omega (arith, most)
+
 pub live_over-requires-clause-begins : goal.live_over-requires-clause-begins
 live_over-requires-clause-begins g c =
     let begun = c.args.begun in
     subst (λ (l : List ℕ). BeginsWith g.N.Named.rules begun.states.items l) (sym c.deref-in-Ok-begin.ensures.value)
     (subst (λ (r : Rules). BeginsWith r begun.states.items begun.incarnations.items) (sym c.requires.rules)
-    (begins_with (g.R.Reactions.flows c.args.reactions.now) c.args.shape.count begun c.args.placed.run [] false c.requires.some c.requires.few c.requires.can))
+    (begins_with (g.R.Reactions.flows c.args.reactions.now) c.args.shape.count begun c.args.placed.run 0 64 [] false c.requires.some c.requires.few c.requires.can))

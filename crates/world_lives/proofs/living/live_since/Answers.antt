@@ -25,7 +25,7 @@ pub live_named-requires-clause-made : goal.live_named-requires-clause-made
 live_named-requires-clause-made g c = c.placed_by-placed.ensures.0
 
 pub live_named-requires-clause-goes : goal.live_named-requires-clause-goes
-live_named-requires-clause-goes g c = has_begun (g.R.Reactions.flows c.args.reactions.now) c.args.shape.count c.args.shape.digest (g.V.Site.history c.open_logs.new.site) c.in-Ok.begun c.placed_by-placed.result.run [] false c.placed_by-placed.ensures.0
+live_named-requires-clause-goes g c = has_begun (g.R.Reactions.flows c.args.reactions.now) c.args.shape.count c.args.shape.digest (g.V.Site.history c.open_logs.new.site) c.in-Ok.begun c.placed_by-placed.result.run 0 64 [] false c.placed_by-placed.ensures.0
 
 pub live_named-requires-clause-origin : goal.live_named-requires-clause-origin
 live_named-requires-clause-origin g c = origin_is c.args.shape.count c.args.shape.digest (files_of c.in-Ok.begun.logs.items) (g.V.Site.history c.open_logs.new.site) (parts_in c.in-Ok.begun.states.items)

@@ -1,5 +1,5 @@
 use Rattle.node_core.proofs.Steps.{runs_same}
-use Rattle.engine_rounds.proofs.driving.judge_now.Goals as goal
+use Rattle.round_steps.proofs.tidying.judge_now.Goals as goal
 
 pub judge_all-rewound-requires : goal.judge_all-rewound-requires
 judge_all-rewound-requires g c =

@@ -1,5 +1,5 @@
 use Rattle.node_core.proofs.Steps.{runs_same}
-use Rattle.engine_rounds.proofs.driving.trim_now.Goals as goal
+use Rattle.round_steps.proofs.tidying.trim_now.Goals as goal
 
 pub trim_all-trimmed-requires-clause-running : goal.trim_all-trimmed-requires-clause-running
 trim_all-trimmed-requires-clause-running g c =

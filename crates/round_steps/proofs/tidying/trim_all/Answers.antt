@@ -1,7 +1,7 @@
 use Rattle.std.proofs.Common.{◌∙◌}
 use Rattle.std.proofs.Math.Nat.{le_of_eq}
 use Rattle.cell_frames.specs.Joined.{view_of}
-use Rattle.engine_rounds.proofs.driving.trim_all.Goals as goal
+use Rattle.round_steps.proofs.tidying.trim_all.Goals as goal
 
 pub parts-preserved : goal.parts-preserved
 parts-preserved g c =
@@ -9,6 +9,7 @@ parts-preserved g c =
     let inv = c.parts.invariant in
     record {
       begun = inv.begun;
+      serves = inv.serves;
       some = inv.some;
       few = inv.few;
       many = h.many ∙ inv.many;

@@ -1,5 +1,5 @@
 use Rattle.node_core.specs.Running.{IsRunning}
-use Rattle.engine_rounds.proofs.driving.trim_all.Given as goal
+use Rattle.round_steps.proofs.tidying.trim_all.Given as goal
 
 -- the call goes on
 abbrev pub invariant-parts : goal.invariant-parts

@@ -1,11 +1,12 @@
 use Rattle.std.specs.Prelude.{◌≡◌}
 use Rattle.round_steps.specs.Serving.{GoesOn, IsServing}
-use Rattle.engine_rounds.proofs.driving.settle_given_up.Given as goal
+use Rattle.round_steps.proofs.tidying.settle_given_up.Given as goal
 
 -- the call goes on
 abbrev pub invariant-passes : goal.invariant-passes
 invariant-passes g l = record {
-  goes : GoesOn l.fn.store l.store;
+  goes : GoesOn g.M.Picked.rules l.fn.store l.store;
   serving : IsServing g.M.Picked.origin g.M.Picked.rules l.store l.cells.items l.course.port;
   latest : l.store.logs.latest ≡ l.fn.store.logs.latest;
+  seen : l.course.seen ≡ l.fn.course.seen;
 }
