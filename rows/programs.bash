@@ -64,6 +64,27 @@ trial_tick() {
     same 'it runs' $'Tick/x running\n.' "$(text_of "$work/stdout")"
 }
 
+# A run that may take few steps ends by the round that came to them: with as many or more, or with all answers said, where nothing
+# was left to do. The first round can't say the sum, since an activity runs once it is settled that it was asked for. What was said are the first
+# lines, and a run with more steps says all.
+trial_few_steps() {
+    local steps status
+    for steps in 1 2 3 4 5 6; do
+        rm -rf -- "${work:?}/d"
+        cp -R -- "$here/steps_just_enough/in" "$work/d"
+        "$program" "$work/d" run --partitions 1 --batch 1 --steps "$steps" >"$work/stdout" 2>"$work/stderr"
+        status=$?
+        if [ "$steps" -eq 1 ] || [ "$status" -ne 0 ]; then
+            ended "$steps steps" 4 "$status" long "$steps"
+            is_front "$steps steps" "$SUM"
+        else
+            same "$steps steps: all lines" "$SUM." "$(text_of "$work/stdout")"
+        fi
+        "$program" "$work/d" run --partitions 1 >"$work/stdout" 2>&1
+        same "all lines behind $steps steps" "$SUM." "$(text_of "$work/stdout")"
+    done
+}
+
 # A timer of a second fires after a second on the machine's clock: not sooner, and not much later. Files and answers as always.
 trial_a_second() {
     local came begun ended took

@@ -4,8 +4,7 @@ use Rattle.std.specs.Prelude.{IfErr}
 use Rattle.std.proofs.lemmas.Result.{IfErr-at_err}
 use Rattle.dura_model.specs.Partition.{Partition, shown}
 use Rattle.cluster_run.specs.Causes.{cause_of_recovery}
-use Rattle.engine_run.specs.Opening.{RefusesAs}
-use Rattle.engine_run.specs.Showing.{ShowsAs, AreThere}
+use Rattle.engine_run.specs.Showing.{ShowsAs, AreThere, RefusesAs}
 use Rattle.flow_syntax.specs.Syntax.{Flows}
 use Rattle.log_files.specs.Fronts.{AreSyncs, synced_to}
 use Rattle.recover_core.specs.Recovering.{Refuses, AreOpened}

@@ -12,7 +12,6 @@ use Rattle.command_words.specs.declared.words.Call.TheVariants.{Run, Show}
 use Rattle.command_words.specs.declared.words.RunOptions.{RunOptions}
 use Rattle.dura_value.proofs.Basics.{some_same}
 use Rattle.dura_value.proofs.Optional.{both_there}
-use Rattle.engine_run.specs.Promises.{is_alone}
 
 guarded : {X : Type 0} (test : Bool) (wanted : Option X) (x : X) → guard test wanted ≡ Some x → wanted ≡ Some x
 guarded true wanted x is = is
@@ -111,7 +110,3 @@ run_no_show call options partitions is also = absurd (cc (is, also))
 
 pub none_no_call : (call : Option Call) (some : Call) → call ≡ None → call ≡ Some some → ⊥
 none_no_call call some is also = absurd (cc (is, also))
-
--- a run is of one partition, or it isn't
-pub never_both : (one other : RunOptions) → one ≡ other → is_alone one ≡ true → is_alone other ≡ false → ⊥
-never_both one other same is not_is = let wrong : true ≡ false = sym is ∙ ap is_alone same ∙ not_is in cc wrong

@@ -1,5 +1,6 @@
 -- What showing what is there answers, and says.
 use Rattle.std.specs.Prelude.{◌≡◌, ◌⊎◌, ℕ, ◌<◌, List, [], Some}
+use Rattle.cluster_run.specs.Causes.{cause_of_recovery}
 use Rattle.dura_model.specs.Partition.{Partition, shown}
 use Rattle.dura_value.specs.Items.{Entry}
 use Rattle.flow_syntax.specs.Syntax.{Flows}
@@ -15,6 +16,23 @@ use Rattle.run_inputs.specs.Refusal.{flows_refusal}
 use Rattle.site_model.specs.History.{Step, changes_of}
 use Rattle.state_lines.specs.Fronts.{SaysTable, StopsInTable}
 use Rattle.state_lines.specs.declared.error.ShowError.TheVariants as stops
+
+-- the logs of so many partitions are refused
+pub record RefusesAs (flows : Flows) (count digest : ℕ) (files : ℕ → List ℕ) (cause : Cause) : Type 0 where
+  pub error : RecoverError
+  pub cause_is : cause ≡ cause_of_recovery error
+  pub refuses : Refuses flows count digest files error
+
+-- why logs are refused, or what may come at any time
+abbrev pub IsLogCause : Cause → Type 0
+IsLogCause SiteFault = Unit {0}
+IsLogCause Memory = Unit {0}
+IsLogCause (Damaged file offset) = Unit {0}
+IsLogCause (Illegal partition position) = Unit {0}
+IsLogCause (Unclosed partition position src seq) = Unit {0}
+IsLogCause (OtherShape found asked) = Unit {0}
+IsLogCause (OtherFlows found given) = Unit {0}
+IsLogCause other = ⊥
 
 -- The flows file has these flows, and all that the logs of so many partitions kept made these states.
 pub record AreThere (files : ℕ → List ℕ) (count : ℕ) (flows : Flows) (states : ℕ → Partition) : Type 0 where

@@ -1,77 +1,25 @@
 //! The top call.
 
-ghost use Rattle.std.specs.Prelude.{◌≡◌, ◌≢◌, ◌⊎◌, ◌≤◌, ◌<◌, ◌^◌, [], None};
-ghost use Rattle.command_words.specs.Command.{call_in};
-ghost use Rattle.cluster_run.specs.Causes.{IsRefusal};
-ghost use Rattle.engine_run.specs.Causes.{AsksFor, CauseHolds, AreRefused, LeavesAll, Untouched};
-ghost use Rattle.engine_run.specs.Complete.{EndsSoundly};
-ghost use Rattle.engine_run.specs.Ends.{terms_of};
-ghost use Rattle.engine_run.specs.Headline.{Headline};
-ghost use Rattle.cluster_run.specs.Asked.{Job};
+ghost use Rattle.std.specs.Prelude.{◌≡◌, ◌⊎◌, None};
 ghost use Rattle.cluster_run.specs.Faults.{faults_of, FaultsRise};
-ghost use Rattle.engine_run.specs.Promises.{Promises, is_alone};
+ghost use Rattle.command_words.specs.Command.{call_in};
+ghost use Rattle.engine_rounds.specs.Heard.{heard_of};
+ghost use Rattle.engine_run.specs.Complete.{EndsSoundly};
+ghost use Rattle.engine_run.specs.Promises.{Promises};
 ghost use Rattle.run_causes.specs.Causes.{status_of};
 ghost use Rattle.site_model.specs.History.{content_of};
 
-use crate::prepared::prepare;
-use crate::running::go_named;
 use crate::showing::show;
 use activity_table::Activities;
 use cluster_run::{Ended, end_with, run_cluster};
-use command_words::{Call, RunOptions, WordsError, read_words};
+use command_words::{Call, WordsError, read_words};
 use dura_value::Text;
 use hub_store::Trail;
 use run_causes::Cause;
 use site_model::{Clock, Site};
 use std::alloc::Global;
-use std::marker::Brand;
 use std::sync::Wait;
 use std::thread::Threads;
-
-/// Whether a run is of one partition on one node, without a seed.
-fn is_alone(options: &RunOptions) -> bool
-    ensures { result ≡ is_alone options.now }
-{
-    options.partitions == 1 && options.nodes == 1 && options.seed == 0
-}
-
-/// Runs the requests of the site's files over one partition.
-fn run_requests<V: Site, C: Clock, A: Activities>(
-    alloc: Global,
-    mut site: V,
-    clock: C,
-    acts: &A,
-    options: RunOptions,
-) -> Ended<V, C>
-    requires some { 0 < options.batch }
-    requires few { options.batch ≤ 64 }
-    requires fits { 0 < options.segment }
-    requires short { options.segment ≤ 2 ^ 31 }
-    ensures tells { V.tells result.site → V.tells site }
-    ensures status { result.status ≡ status_of result.cause }
-    ensures no_usage { result.cause ≢ Cause.Usage }
-    ensures answers { V.tells result.site → CauseHolds (λ file. content_of file (V.history site))
-        result.cause }
-    ensures untouched { Untouched (V.history site) (V.history result.site) result.cause }
-    ensures refused { V.tells result.site → AreRefused (λ file. content_of file (V.history site))
-        → LeavesAll (V.history site) (V.history result.site) result.trail }
-    ensures settles_nothing { IsRefusal result.cause → result.trail ≡ [] }
-    ensures headline { V.tells result.site → (job : Job)
-        → AsksFor (λ file. content_of file (V.history site)) job
-        → Headline job (λ file. content_of file (V.history site)) (V.history site)
-        (V.history result.site) result.trail
-        (terms_of options A.gives (C.given clock) (C.given result.clock) (C.latest result.clock))
-        result.cause }
-    ensures faults { FaultsRise result.cause
-        (faults_of (V.disk_faults site) (V.say_faults site) (C.clock_faults clock))
-        (faults_of (V.disk_faults result.site) (V.say_faults result.site)
-        (C.clock_faults result.clock)) }
-{
-    match prepare(alloc, &mut site) {
-        Ok(prepared) => go_named::<V, Brand, C, A>(alloc, site, clock, acts, prepared, options),
-        Err(cause) => end_with(cause, Trail::none(alloc), site, clock),
-    }
-}
 
 /// [`run`] without threads. It returns for every input, once each wait of the clock does.
 pub fn run_alone<V: Site, C: Clock, A: Activities>(
@@ -92,8 +40,8 @@ pub fn run_alone<V: Site, C: Clock, A: Activities>(
     // All else, by what the words ask for: what every crash of a run leaves, what it answers and said, and what refusals leave.
     ensures promises { Promises words.now (V.tells result.site) (V.history site)
         (V.history result.site)
-        (λ options. terms_of options A.gives (C.given clock) (C.given result.clock)
-        (C.latest result.clock)) result.trail result.cause }
+        (heard_of (C.given clock) (C.given result.clock) (C.latest result.clock)) result.trail
+        result.cause }
 
     // A fault has its cause.
     ensures faults { FaultsRise result.cause
@@ -109,13 +57,7 @@ pub fn run_alone<V: Site, C: Clock, A: Activities>(
         (C.clock_faults result.clock)) result.cause }
 {
     match read_words(alloc, words) {
-        Ok(Call::Run(options)) => {
-            if is_alone(&options) {
-                run_requests(alloc, site, clock, acts, options)
-            } else {
-                run_cluster(alloc, site, clock, acts, options)
-            }
-        }
+        Ok(Call::Run(options)) => run_cluster(alloc, site, clock, acts, options),
         Ok(Call::Show(partitions)) => {
             let cause = show(alloc, &mut site, partitions);
             end_with(cause, Trail::none(alloc), site, clock)
@@ -129,8 +71,8 @@ pub fn run_alone<V: Site, C: Clock, A: Activities>(
 ///
 /// `run` reads files 0, 1 and 2 (the flows, the requests and the plan), recovers what the logs keep, and goes on over as many partitions and
 /// nodes as the words say, by the plan: it says each answer once what it answers is committed, until nothing is possible any more
-/// or as many labels were settled as may be. One partition on one node without a seed commits each step before the next. `show` reads file 0, recovers, and says a line for each entity and each instance. `rt` may start and join
-/// threads; until there are any it isn't used.
+/// or as many labels were settled as may be. `show` reads file 0, recovers, and says a line for each entity and each instance. `rt` may start
+/// and join threads; until there are any it isn't used.
 ///
 /// A refusal is the first of these: the words, then files 0, 1 and 2 in this order, each one's length before its bytes, then the
 /// logs, then a request under whose client and number another was taken.
@@ -153,8 +95,8 @@ pub fn run<R: Threads + Wait + Sync, V: Site + Send, C: Clock + Send, A: Activit
     // All else, by what the words ask for: what every crash of a run leaves, what it answers and said, and what refusals leave.
     ensures promises { Promises words.now (V.tells result.site) (V.history site)
         (V.history result.site)
-        (λ options. terms_of options A.gives (C.given clock) (C.given result.clock)
-        (C.latest result.clock)) result.trail result.cause }
+        (heard_of (C.given clock) (C.given result.clock) (C.latest result.clock)) result.trail
+        result.cause }
 
     // A fault has its cause.
     ensures faults { FaultsRise result.cause

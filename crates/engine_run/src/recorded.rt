@@ -2,8 +2,8 @@
 
 ghost use Rattle.std.specs.Prelude.{◌≡◌, ◌⊎◌, ◌<◌, [], None};
 ghost use Rattle.command_words.specs.Command.{call_in};
+ghost use Rattle.engine_rounds.specs.Heard.{heard_of};
 ghost use Rattle.engine_run.specs.Complete.{EndsSoundly};
-ghost use Rattle.engine_run.specs.Ends.{terms_of};
 ghost use Rattle.cluster_run.specs.Faults.{faults_of, FaultsRise};
 ghost use Rattle.engine_run.specs.Promises.{Promises};
 ghost use Rattle.engine_run.specs.Recorded.{steps_before, steps_after};
@@ -53,8 +53,8 @@ pub fn run_recorded<
     // All else, by what the words ask for: what every crash of a run leaves, what it answers and said, and what refusals leave.
     ensures promises { Promises words.now (Tells S.unseen (C.events (calls_of result.site)))
         (steps_before S.unseen) (steps_after S.unseen (C.events (calls_of result.site)))
-        (λ options. terms_of options A.gives (K.given clock) (K.given result.clock)
-        (K.latest result.clock)) result.trail result.cause }
+        (heard_of (K.given clock) (K.given result.clock) (K.latest result.clock)) result.trail
+        result.cause }
 
     // A fault has its cause: the count of its kind rose, and the record has a call of the system that failed.
     ensures faults { FaultsRise result.cause

@@ -1,9 +1,6 @@
-pub mod AskedOnce
+pub mod Clocks
 pub mod Fit
 pub mod Founded
-pub mod HalfSaid
-pub mod Idle
-pub mod InOrder
 pub mod LogsKept
 pub mod Moves
 pub mod NoLogs
@@ -14,4 +11,4 @@ pub mod Ready
 pub mod Shown
 pub mod Stillness
 pub mod SyncsLeave
-pub mod Unread
+pub mod Unfit

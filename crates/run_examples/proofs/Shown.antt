@@ -3,8 +3,7 @@ use Rattle.std.proofs.Common.{◌≡◌, ◌∙◌, ◌==◌, if◌then◌else�
 use Rattle.std.specs.Fmt.{digits}
 use Rattle.std.specs.Str.{chars, is_utf8}
 use Rattle.dura_model.specs.Partition.{Partition, fresh, with_part}
-use Rattle.engine_run.specs.Causes.{IsLogRefusal}
-use Rattle.engine_run.specs.Causes.AreRefused.{for_logs}
+use Rattle.cluster_run.specs.Comes.AreUnfit.{for_logs}
 use Rattle.engine_run.specs.Showing.{AreThere, RefusesThere}
 use Rattle.flow_syntax.specs.Syntax.{Flows}
 use Rattle.part_items.specs.Logs.{logs_in, entries_in, alone_with}
@@ -15,12 +14,15 @@ use Rattle.part_items.specs.Examples.{taking}
 use Rattle.run_rules.proofs.OneOfMany.{none_left}
 use Rattle.run_rules.specs.Examples.{request_taken}
 use Rattle.run_examples.specs.Directories.{directory, earlier_log}
+use Rattle.open_logs.specs.Spent.{IsOwn}
+use Rattle.open_logs.specs.declared.error.OpenError.TheVariants as refusals
 use Rattle.recover_core.specs.declared.error.RecoverError.{RecoverError}
 use Rattle.run_causes.specs.declared.cause.Cause.TheVariants.{BadFlows}
 use Rattle.run_causes.specs.declared.cause.FlowsFault.TheVariants.{NotJson}
 use Rattle.run_examples.specs.Calls.{one_asked}
 use Rattle.run_examples.proofs.LogsKept.{fresh_kept, earlier_kept}
-use Rattle.run_examples.proofs.Ready.{ready, not_ready}
+use Rattle.run_examples.proofs.Fit.{not_refused}
+use Rattle.run_examples.proofs.Ready.{earlier_logs, earlier_in}
 use Rattle.run_inputs.specs.Examples.{good_files, one_flow, requests_bytes}
 use Rattle.run_inputs.specs.Refusal.{flows_refused}
 use Rattle.run_inputs.proofs.Computed.{flows_of_one, flows_refusal_one, requests_of_one, refusal_good}
@@ -51,18 +53,13 @@ only_fresh flows states there =
     ap (λ (n : ℕ). (placed_in flows 1 n (record { states = fresh; left = there.logs })).states) many ∙ sym there.made
 
 -- and its logs aren't refused
-pub no_refusal : (error : RecoverError) → IsLogRefusal error → RefusesThere good_files 1 error → ⊥
-no_refusal error is refuses = not_ready good_files (for_logs error is (
-  record { flows = refuses.0; digest = refuses.1; requests = one_asked.requests },
-  record { flows_in_file = refuses.2.flows_in_file; digest_of_file = refuses.2.digest_of_file; requests_in_file = requests_of_one; accepted = refusal_good },
-  refuses.3,
-)) ready
+pub no_refusal : (error : RecoverError) → IsOwn (refusals.Refused error) → RefusesThere good_files 1 error → ⊥
+no_refusal error own refuses =
+    not_refused (for_logs (record { flows = refuses.0; digest = refuses.1; requests = one_asked.requests })
+    (record { flows_in_file = refuses.2.flows_in_file; digest_of_file = refuses.2.digest_of_file; requests_in_file = requests_of_one; accepted = refusal_good })
+    (refusals.Refused error, own, refuses.3))
 
 -- ---- an earlier run
-
--- the entries of the one partition there is
-abbrev earlier_logs : ℕ → List Entry
-earlier_logs partition = if partition == 0 then taking 0 ∷ [] else []
 
 -- what it took is there
 pub earlier_there : AreThere (directory requests_bytes earlier_log) 1 one_flow (with_part fresh 0 request_taken)
@@ -70,8 +67,7 @@ earlier_there = record {
   digest = one_asked.digest;
   flows_in_file = record { accepted = flows_refusal_one; flows_in_file = flows_of_one; digest_of_file = refl };
   logs = earlier_logs;
-  kept = λ partition below. let is : 0 ≡ partition = omega (arith, below) in
-      subst (λ (p : ℕ). entries_in (logs_in (asked_for 1 one_asked.digest p) (directory requests_bytes earlier_log)) ≡ Some (earlier_logs p)) is earlier_kept;
+  kept = λ partition below. earlier_in partition (omega (arith, below));
   none_left = λ partition below. let is : 0 ≡ partition = omega (arith, below) in subst (λ (p : ℕ). (placed one_flow 1 earlier_logs).left p ≡ []) is refl;
   made = refl;
 }

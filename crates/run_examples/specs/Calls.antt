@@ -1,32 +1,27 @@
 -- What a call's clauses say, by example.
-use Rattle.std.specs.Prelude.{ℕ, List, [], ◌∷◌, codes, Some}
-use Rattle.client_port.specs.Ports.{Queue}
+use Rattle.std.specs.Prelude.{ℕ, true, List, [], ◌∷◌, codes, Some}
+use Rattle.client_order.specs.Clashes.{Taken}
+use Rattle.cluster_run.specs.Asked.{Job}
 use Rattle.command_words.specs.declared.words.RunMode.TheVariants as modes
 use Rattle.command_words.specs.declared.words.RunOptions.{RunOptions}
 use Rattle.dura_model.specs.Partition.{Partition, fresh}
-use Rattle.dura_model.specs.Steps.{Label, finish}
 use Rattle.dura_model.specs.World.{World, empty}
 use Rattle.dura_value.specs.ById.{at_number}
 use Rattle.dura_value.specs.Digest.{fnv1a_64}
 use Rattle.dura_value.specs.Ids.{client, orchestration}
 use Rattle.dura_value.specs.Messages.{start, wait, to_request, was_started}
 use Rattle.dura_value.specs.declared.data.Value.TheVariants as values
-use Rattle.dura_value.specs.declared.outcome.Outcome.TheVariants as outcomes
-use Rattle.engine_run.specs.Ends.{Terms, terms_of}
-use Rattle.cluster_run.specs.Asked.{Job}
+use Rattle.engine_rounds.specs.Heard.{Heard, heard_of}
 use Rattle.flow_syntax.specs.Syntax.{Flows}
 use Rattle.hub_store.specs.Trail.{Settled}
-use Rattle.part_items.specs.Examples.{digest, request, taking}
+use Rattle.many_rules.specs.Rules.{Rules}
+use Rattle.part_items.specs.Examples.{request, taking}
 use Rattle.request_reader.specs.Line.{Request}
 use Rattle.run_inputs.specs.Examples.{flows_bytes, one_flow, one_request}
-use Rattle.run_rules.specs.Rules.{Rules}
 
 -- no flows, and nobody asks for anything
 abbrev pub no_flows : Flows
 no_flows = record { flows = []; classes = [] }
-
-abbrev pub nothing_asked : Job
-nothing_asked = record { flows = no_flows; digest = digest; requests = [] }
 
 -- what files of one flow and one request ask for
 abbrev pub one_asked : Job
@@ -39,10 +34,6 @@ starting = record { client = codes "a"; number = 1; message = request }
 abbrev pub waiting : Request
 waiting = record { client = codes "a"; number = 1; message = record { from = client (codes "a"); to = orchestration (codes "Sum") (codes "x"); body = wait 1 } }
 
--- client a's request alone
-abbrev pub one_start : Job
-one_start = record nothing_asked { requests = starting ∷ [] }
-
 -- client b does so too; and a request to start Sum/x was taken of both
 abbrev pub waiting_too : Request
 waiting_too = record waiting { client = codes "b" }
@@ -50,27 +41,27 @@ waiting_too = record waiting { client = codes "b" }
 abbrev pub both_taken : Partition
 both_taken = record (fresh 0) { taken = at_number (at_number (fresh 0).taken (client (codes "a")) 1 (Some request)) (client (codes "b")) 1 (Some request) }
 
--- of client a's one request the answer wasn't said, or it was
-abbrev pub unsaid : List Queue
-unsaid = record { client = codes "a"; requests = starting ∷ []; said = 0 } ∷ []
-
-abbrev pub all_said : List Queue
-all_said = record { client = codes "a"; requests = starting ∷ []; said = 1 } ∷ []
-
 -- the entry by which it is taken was settled at the first moment
 abbrev pub settled_once : List Settled
 settled_once = record { partition = 0; entry = taking 0; at = 1 } ∷ []
 
--- one task is ended twice
-abbrev pub ended_twice : List Label
-ended_twice =
-    finish (orchestration (codes "Sum") (codes "x")) 0 (outcomes.Done values.Null)
-    ∷ finish (orchestration (codes "Sum") (codes "x")) 0 (outcomes.Done values.Null)
-    ∷ []
-
--- rules of a call that begins where nothing happened, for these requests
+-- rules of a call of one partition that begins where nothing happened, for these requests
 abbrev pub rules_for : List Request → Rules
-rules_for requests = record { flows = no_flows; begin = fresh 0; incarnation = 0; requests = requests }
+rules_for requests = record {
+  flows = no_flows;
+  count = 1;
+  recovered = [];
+  begin = fresh;
+  incarnations = λ partition. 0;
+  since = 0;
+  most = 16;
+  requests = requests;
+  serves = true;
+}
+
+-- what this state has taken
+abbrev pub taken_of : Partition → Taken
+taken_of p name number = p.taken (client name) number
 
 -- client b asks for the same
 abbrev pub asking_too : Request
@@ -108,6 +99,6 @@ going_alone batch steps segment = record { partitions = 1; nodes = 1; mode = mod
 abbrev pub by_steps : ℕ → RunOptions
 by_steps steps = going_alone 16 steps 4096
 
--- by which nothing is given, and no stamp
-abbrev pub terms_by : (steps latest : ℕ) → Terms
-terms_by steps latest = terms_of (by_steps steps) (λ name argument word. outcomes.Done argument) [] [] latest
+-- the clock gave nothing
+abbrev pub unheard : Heard
+unheard = heard_of [] [] 0

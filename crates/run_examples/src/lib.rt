@@ -3,15 +3,13 @@
 //!
 //! - `state_examples`: definitions of a partition's state (`part_steps`).
 //! - `recovery_examples`: those of what is recovered (`recover_core`).
-//! - `call_examples`: those of the call (`engine_run`); `refusal_examples`: what its files held, and why they are refused;
-//!   `going_examples`: runs that go on,
-//!   `clock_examples`: by their clock, and `ending_examples`: to their end; `life_examples`: calls one after another; `show_examples`: what a call shows;
-//!   `promise_examples`: the list of all that it promises.
+//! - `call_examples`: those of the call (`engine_run`, `cluster_run`); `refusal_examples`: what its files held, and why they are refused;
+//!   `going_examples`: what stands on files that a run of one partition leaves; `life_examples`: calls one after another;
+//!   `clock_examples`: what goes by a clock; `show_examples`: what a call shows; `promise_examples`: the list of all that it promises.
 #![tactic(auto)]
 
 mod call_examples;
 mod clock_examples;
-mod ending_examples;
 mod going_examples;
 mod life_examples;
 mod promise_examples;

@@ -1,31 +1,26 @@
 //! Examples of what a call promises: in each all facts hold, or all but one.
 
 ghost use Rattle.std.specs.Prelude.{◌≡◌, ℕ, ◌-◌, ◌^◌, List, [], ◌∷◌, codes, None, Some};
+ghost use Rattle.cluster_run.specs.Asked.{Asks};
+ghost use Rattle.cluster_run.specs.Comes.{AreUnfit};
+ghost use Rattle.cluster_run.specs.Complete.{AreFit, NoneRose};
+ghost use Rattle.cluster_run.specs.Faults.{faults_of, FaultsRise};
 ghost use Rattle.command_words.specs.Command.{call_in};
 ghost use Rattle.command_words.specs.declared.words.Call.TheVariants as calls;
 ghost use Rattle.command_words.specs.declared.words.RunOptions.{RunOptions};
-ghost use Rattle.dura_model.specs.Partition.{Partition};
-ghost use Rattle.dura_value.specs.Items.{Entry};
-ghost use Rattle.engine_run.specs.Causes.{AsksFor, AreRefused};
 ghost use Rattle.engine_run.specs.Complete.{EndsSoundly};
-ghost use Rattle.cluster_run.specs.Asked.{Job};
-ghost use Rattle.cluster_run.specs.Comes.{AreUnfit};
-ghost use Rattle.cluster_run.specs.Complete.{AreFit, NoneRose};
-ghost use Rattle.engine_run.specs.Job.{FilesKeep, AreGivenIn};
-ghost use Rattle.engine_run.specs.Promises.{RunsAlone, RunsOver};
-ghost use Rattle.cluster_run.specs.Faults.{faults_of, FaultsRise};
+ghost use Rattle.part_items.specs.Examples.{empty_log};
 ghost use Rattle.run_causes.specs.declared.cause.Cause.TheVariants as causes;
 ghost use Rattle.run_causes.specs.declared.cause.PlanPlace.TheVariants as places;
-ghost use Rattle.part_items.specs.Examples.{empty_log};
 ghost use Rattle.run_examples.specs.Calls.{by_steps, one_asked, settled_once};
 ghost use Rattle.run_examples.specs.Directories.{directory};
 ghost use Rattle.run_examples.specs.Promised.{Keeps, KeepsUntold};
 ghost use Rattle.run_inputs.specs.Examples.{three_files, good_files, requests_bytes};
-ghost use Rattle.site_model.specs.History.{Step, on, synced, wrote, content_of};
+ghost use Rattle.site_model.specs.History.{Step, on, said, synced, wrote, content_of};
 
 /// A call whose words ask for nothing, and that does nothing, keeps all. One doesn't that does something then, or settles something; a run
-/// that ends with a fault of the words, that syncs where the plan is refused, that settles something where the files are refused, or settles
-/// something where they keep entries and the clock was never read; the same of a run over partitions; and a `show` that waits for an answer, or that writes.
+/// that ends with a fault of the words, that syncs where the plan is refused, or that says a byte, or settles something, where its files are
+/// refused; and a `show` that waits for an answer, or that writes.
 pub fn promises_kept()
     ensures nothing { (words : List (List ℕ)) → call_in words ≡ None
         → Keeps words [] [] [] causes.Usage }
@@ -34,25 +29,16 @@ pub fn promises_kept()
     ensures settled { (words : List (List ℕ)) → call_in words ≡ None
         → Keeps words [] [] settled_once causes.Usage → ⊥ }
     ensures usage { (words : List (List ℕ)) (options : RunOptions)
-        → RunsAlone words options → Keeps words [] [] [] causes.Usage → ⊥ }
+        → call_in words ≡ Some (calls.Run options) → Keeps words [] [] [] causes.Usage → ⊥ }
     ensures touched { (words : List (List ℕ)) (options : RunOptions)
-        → RunsAlone words options
+        → call_in words ≡ Some (calls.Run options)
         → KeepsUntold words [] (on 16 synced ∷ []) [] (causes.BadPlan places.Whole) → ⊥ }
-    ensures refused { (words : List (List ℕ)) (options : RunOptions) (old : List Step)
-        → RunsAlone words options → AreRefused (λ file. content_of file old)
-        → Keeps words old old settled_once causes.Memory → ⊥ }
-    ensures unread { (words : List (List ℕ)) (options : RunOptions) (old : List Step) (job : Job)
-        (entries : List Entry) (begin : Partition) → RunsAlone words options
-        → AsksFor (λ file. content_of file old) job
-        → FilesKeep job (λ file. content_of file old) entries begin → AreGivenIn job entries
-        → Keeps words old old settled_once causes.Memory → ⊥ }
-    ensures touched_over { (words : List (List ℕ)) (options : RunOptions) → RunsOver words options
-        → KeepsUntold words [] (on 16 synced ∷ []) [] (causes.BadPlan places.Whole) → ⊥ }
+    ensures spoken { (words : List (List ℕ)) (options : RunOptions) (old : List Step)
+        → call_in words ≡ Some (calls.Run options) → AreUnfit options (λ file. content_of file old)
+        → Keeps words old (said 97 ∷ old) [] causes.Memory → ⊥ }
     ensures unfit { (words : List (List ℕ)) (options : RunOptions) (old : List Step)
-        → RunsOver words options → AreUnfit options (λ file. content_of file old)
+        → call_in words ≡ Some (calls.Run options) → AreUnfit options (λ file. content_of file old)
         → Keeps words old old settled_once causes.Memory → ⊥ }
-    ensures nothing_over { (words : List (List ℕ)) (options : RunOptions) → RunsOver words options
-        → Keeps words [] [] [] causes.Usage → ⊥ }
     ensures waiting { (words : List (List ℕ)) (partitions : ℕ)
         → call_in words ≡ Some (calls.Show partitions)
         → Keeps words [] [] [] (causes.Waiting (codes "a") 1) → ⊥ }
@@ -77,7 +63,7 @@ pub fn faults_risen()
 pub fn files_fit()
     ensures fit { AreFit (by_steps 1) good_files }
     ensures asks { AreFit (by_steps 1) (three_files (codes "{}") [] (codes "[]")) → ⊥ }
-    ensures stand { AsksFor (directory requests_bytes empty_log) one_asked
+    ensures stand { Asks 1 1 (directory requests_bytes empty_log) one_asked
         × (AreFit (by_steps 1) (directory requests_bytes empty_log) → ⊥) }
     ensures sound { (words : List (List ℕ)) → call_in words ≡ Some (calls.Run (by_steps 1))
         → EndsSoundly words (Unit {0}) good_files (faults_of 0 0 0) (faults_of 0 0 0)

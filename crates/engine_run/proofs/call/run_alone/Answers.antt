@@ -1,23 +1,15 @@
-use Rattle.std.proofs.Common.{◌≡◌, ◌≤◌, ◌∙◌, inl, inr, ℕ, List, true, false, Some, refl, sym, ap, subst, arith}
+use Rattle.std.proofs.Common.{◌≡◌, ◌≤◌, ◌∙◌, inl, inr, ℕ, List, Some, refl, sym, ap, subst, arith}
 use Rattle.std.proofs.Math.Nat.{le_of_eq}
 use Rattle.cluster_run.specs.Comes.{AreUnfit, ComesTo, KeepsFiles, LeavesLogs}
 use Rattle.cluster_run.specs.Complete.{AreFit, IsSound}
 use Rattle.command_words.specs.Command.{call_in}
 use Rattle.command_words.specs.declared.words.Call.TheVariants.{Run, Show}
 use Rattle.command_words.specs.declared.words.RunOptions.{RunOptions}
-use Rattle.engine_run.specs.Causes.{CauseHolds, SettlesNothing, Untouched}
-use Rattle.engine_run.specs.Ends.{terms_of}
-use Rattle.engine_run.specs.Headline.{Headline}
-use Rattle.engine_run.specs.Opened.{IsOpening}
-use Rattle.engine_run.specs.Prepared.{IsEarlyCause}
-use Rattle.engine_run.specs.Promises.{RunsOver, is_alone}
-use Rattle.engine_run.specs.Showing.{ShowsAs, WritesNothing}
 use Rattle.engine_rounds.specs.Heard.{heard_of}
-use Rattle.engine_run.proofs.Early.{differ}
-use Rattle.engine_run.proofs.Ending.{memory_no_site, memory_no_say, memory_no_clock}
-use Rattle.engine_run.proofs.Opens.{opening_first}
-use Rattle.engine_run.proofs.Sound.{alone_sound}
-use Rattle.engine_run.proofs.Words.{run_is_within, show_is_within, run_same, run_no_show, show_same, none_no_call, never_both}
+use Rattle.engine_run.specs.Promises.{SettlesNothing}
+use Rattle.engine_run.specs.Showing.{ShowsAs, WritesNothing}
+use Rattle.engine_run.proofs.Causes.{differ, memory_no_site, memory_no_say, memory_no_clock}
+use Rattle.engine_run.proofs.Words.{run_is_within, show_is_within, run_same, run_no_show, show_same, none_no_call}
 use Rattle.engine_run.proofs.call.run_alone.Goals as goal
 use Rattle.run_causes.specs.Causes.{status_of}
 use Rattle.run_inputs.specs.Input.{RefusesInput}
@@ -26,19 +18,6 @@ use Rattle.run_causes.specs.declared.cause.Cause.{Cause}
 use Rattle.run_causes.specs.declared.cause.Cause.TheVariants.{Usage, SiteFault, SayFault, ClockFault, Memory}
 use Rattle.site_model.specs.Calls.{HasRisen}
 use Rattle.site_model.specs.History.{changes_of, content_of, tape}
-use Rattle.site_model.specs.Moments.{Always}
-
-pub run_requests-requires-clause-some : goal.run_requests-requires-clause-some
-run_requests-requires-clause-some g c = let is = rw c.in-Ok-Run.field-0-is at c.in-Ok-Run.ensures in let w = run_is_within c.args.words.now c.in-Ok-Run.options is in w.some
-
-pub run_requests-requires-clause-few : goal.run_requests-requires-clause-few
-run_requests-requires-clause-few g c = let is = rw c.in-Ok-Run.field-0-is at c.in-Ok-Run.ensures in let w = run_is_within c.args.words.now c.in-Ok-Run.options is in w.few
-
-pub run_requests-requires-clause-fits : goal.run_requests-requires-clause-fits
-run_requests-requires-clause-fits g c = let is = rw c.in-Ok-Run.field-0-is at c.in-Ok-Run.ensures in let w = run_is_within c.args.words.now c.in-Ok-Run.options is in omega (arith, w.long)
-
-pub run_requests-requires-clause-short : goal.run_requests-requires-clause-short
-run_requests-requires-clause-short g c = let is = rw c.in-Ok-Run.field-0-is at c.in-Ok-Run.ensures in let w = run_is_within c.args.words.now c.in-Ok-Run.options is in w.short
 
 pub run_cluster-requires-clause-some : goal.run_cluster-requires-clause-some
 run_cluster-requires-clause-some g c = let is = rw c.in-Ok-Run.field-0-is at c.in-Ok-Run.ensures in let w = run_is_within c.args.words.now c.in-Ok-Run.options is in w.there
@@ -55,62 +34,24 @@ run_cluster-requires-clause-most g c = let is = rw c.in-Ok-Run.field-0-is at c.i
 pub run_cluster-requires-clause-short : goal.run_cluster-requires-clause-short
 run_cluster-requires-clause-short g c = let is = rw c.in-Ok-Run.field-0-is at c.in-Ok-Run.ensures in let w = run_is_within c.args.words.now c.in-Ok-Run.options is in w.short
 
-pub returns-then-is_alone : goal.returns-then-is_alone
-returns-then-is_alone g c =
-    let is = rw c.in-Ok-Run.field-0-is at c.in-Ok-Run.ensures in
-    let ran = c.run_requests.ensures in
-    let end = c.run_requests.result in
-    let own = c.in-Ok-Run.options in
-    let files : ℕ → List ℕ = λ file. content_of file (g.V.Site.history c.args.site) in
-    let is_run : call_in c.args.words.now ≡ Some (Run c.in-Ok-Run.options) = is in
-    let alone : is_alone c.in-Ok-Run.options ≡ true = sym c.is_alone.ensures ∙ c.if-is_alone.true in
-    let old = g.V.Site.history c.args.site in record {
-      tells = ran.tells;
-      status = ran.status;
-      usage = λ none. absurd (none_no_call (call_in c.args.words.now) (Run c.in-Ok-Run.options) none is);
-      only_usage = λ usage. absurd (ran.no_usage usage);
-      promises = record {
-        idle = λ none. absurd (none_no_call (call_in c.args.words.now) (Run c.in-Ok-Run.options) none is);
-        answers = λ tells options asked. ran.answers tells;
-        untouched = λ options asked. ran.untouched;
-        refused = λ tells options asked refused. ran.refused tells refused;
-        settles_nothing = λ is. ran.settles_nothing (subst (λ call. SettlesNothing call end.cause) is_run is);
-        headline = λ tells options asked job asks. subst (λ (o : RunOptions). Headline job (λ file. content_of file old) old (g.V.Site.history end.site) end.trail (terms_of o g.A.Activities.gives (g.C.Clock.given c.args.clock) (g.C.Clock.given end.clock) (g.C.Clock.latest end.clock)) end.cause) (run_same (call_in c.args.words.now) c.in-Ok-Run.options options is asked.0) (ran.headline tells job asks);
-        comes = λ tells options asked. absurd (never_both c.in-Ok-Run.options options (run_same (call_in c.args.words.now) c.in-Ok-Run.options options is asked.0) alone asked.1);
-        keeps = λ options asked. absurd (never_both c.in-Ok-Run.options options (run_same (call_in c.args.words.now) c.in-Ok-Run.options options is asked.0) alone asked.1);
-        unfit = λ tells options asked. absurd (never_both c.in-Ok-Run.options options (run_same (call_in c.args.words.now) c.in-Ok-Run.options options is asked.0) alone asked.1);
-        shows = λ tells partitions asked. absurd (run_no_show (call_in c.args.words.now) c.in-Ok-Run.options partitions is asked);
-        writes_nothing = λ partitions asked. absurd (run_no_show (call_in c.args.words.now) c.in-Ok-Run.options partitions is asked);
-      };
-      faults = ran.faults;
-      complete = λ tells options asked fit none.
-          let fitting : AreFit own files = subst (λ (o : RunOptions). AreFit o files) (sym (run_same (call_in c.args.words.now) own options is asked)) fit in
-          alone_sound own files end.cause _ _ alone (ran.answers tells) ran.faults fitting none;
-    }
-
-pub returns-else-is_alone : goal.returns-else-is_alone
-returns-else-is_alone g c =
+pub returns-in-Ok-Run : goal.returns-in-Ok-Run
+returns-in-Ok-Run g c =
     let is = rw c.in-Ok-Run.field-0-is at c.in-Ok-Run.ensures in
     let ran = c.run_cluster.ensures in
     let end = c.run_cluster.result in
     let own = c.in-Ok-Run.options in
     let is_run : call_in c.args.words.now ≡ Some (Run own) = is in
-    let over : is_alone own ≡ false = sym c.is_alone.ensures ∙ c.if-is_alone.false in
     let old = g.V.Site.history c.args.site in
     let now = g.V.Site.history end.site in
     let files : ℕ → List ℕ = λ file. content_of file old in
-    let same : (options : RunOptions) → RunsOver c.args.words.now options → own ≡ options = λ options asked. run_same (call_in c.args.words.now) own options is_run asked.0 in record {
+    let same : (options : RunOptions) → call_in c.args.words.now ≡ Some (Run options) → own ≡ options = λ options asked. run_same (call_in c.args.words.now) own options is_run asked in record {
       tells = ran.tells;
       status = ran.status;
       usage = λ none. absurd (none_no_call (call_in c.args.words.now) (Run own) none is);
       only_usage = λ usage. absurd (ran.no_usage usage);
       promises = record {
         idle = λ none. absurd (none_no_call (call_in c.args.words.now) (Run own) none is);
-        answers = λ tells options asked. absurd (never_both options own (run_same (call_in c.args.words.now) options own asked.0 is_run) asked.1 over);
-        untouched = λ options asked. absurd (never_both options own (run_same (call_in c.args.words.now) options own asked.0 is_run) asked.1 over);
-        refused = λ tells options asked. absurd (never_both options own (run_same (call_in c.args.words.now) options own asked.0 is_run) asked.1 over);
         settles_nothing = λ is. ran.nothing (subst (λ call. SettlesNothing call end.cause) is_run is);
-        headline = λ tells options asked. absurd (never_both options own (run_same (call_in c.args.words.now) options own asked.0 is_run) asked.1 over);
         comes = λ tells options asked. subst (λ (o : RunOptions). ComesTo o files (heard_of (g.C.Clock.given c.args.clock) (g.C.Clock.given end.clock) (g.C.Clock.latest end.clock)) (g.V.Site.tells end.site) old now end.trail end.cause) (same options asked) (ran.comes tells);
         keeps = λ options asked. subst (λ (o : RunOptions). KeepsFiles o.partitions old now end.cause) (same options asked) ran.untouched;
         unfit = λ tells options asked unfit. subst (λ (o : RunOptions). AreUnfit o files → LeavesLogs o.partitions old now end.trail) (same options asked) (ran.unfit tells) unfit;
@@ -118,7 +59,7 @@ returns-else-is_alone g c =
         writes_nothing = λ partitions asked. absurd (run_no_show (call_in c.args.words.now) own partitions is asked);
       };
       faults = ran.faults;
-      complete = λ tells options asked fit none. ran.complete tells (subst (λ (o : RunOptions). AreFit o files) (sym (run_same (call_in c.args.words.now) own options is_run asked)) fit) none;
+      complete = λ tells options asked fit none. ran.complete tells (subst (λ (o : RunOptions). AreFit o files) (sym (same options asked)) fit) none;
     }
 
 pub show-cause-requires-clause-some : goal.show-cause-requires-clause-some
@@ -140,14 +81,10 @@ returns-in-Ok-Show g c =
       only_usage = λ usage. absurd (shown.no_usage (sym end.cause ∙ usage));
       promises = record {
         idle = λ none. absurd (none_no_call (call_in c.args.words.now) (Show c.in-Ok-Show.partitions) none is);
-        answers = λ tells options asked. absurd (run_no_show (call_in c.args.words.now) options c.in-Ok-Show.partitions asked.0 is);
-        untouched = λ options asked. absurd (run_no_show (call_in c.args.words.now) options c.in-Ok-Show.partitions asked.0 is);
-        refused = λ tells options asked. absurd (run_no_show (call_in c.args.words.now) options c.in-Ok-Show.partitions asked.0 is);
         settles_nothing = λ settles. end.trail ∙ c.none.ensures;
-        headline = λ tells options asked. absurd (run_no_show (call_in c.args.words.now) options c.in-Ok-Show.partitions asked.0 is);
-        comes = λ tells options asked. absurd (run_no_show (call_in c.args.words.now) options c.in-Ok-Show.partitions asked.0 is);
-        keeps = λ options asked. absurd (run_no_show (call_in c.args.words.now) options c.in-Ok-Show.partitions asked.0 is);
-        unfit = λ tells options asked. absurd (run_no_show (call_in c.args.words.now) options c.in-Ok-Show.partitions asked.0 is);
+        comes = λ tells options asked. absurd (run_no_show (call_in c.args.words.now) options c.in-Ok-Show.partitions asked is);
+        keeps = λ options asked. absurd (run_no_show (call_in c.args.words.now) options c.in-Ok-Show.partitions asked is);
+        unfit = λ tells options asked. absurd (run_no_show (call_in c.args.words.now) options c.in-Ok-Show.partitions asked is);
         shows = λ tells partitions asked.
             let same : c.in-Ok-Show.partitions ≡ partitions = show_same (call_in c.args.words.now) c.in-Ok-Show.partitions partitions is asked in
             subst (λ (n : ℕ). ShowsAs (λ file. content_of file old) n (tape old) (tape (g.V.Site.history c.end_with.result.site)) c.end_with.result.cause) same
@@ -180,14 +117,10 @@ returns-in-Err-Usage g c =
       only_usage = λ usage. is;
       promises = record {
         idle = λ none. ap g.V.Site.history end.site;
-        answers = λ tells options asked. absurd (none_no_call (call_in c.args.words.now) (Run options) is asked.0);
-        untouched = λ options asked. absurd (none_no_call (call_in c.args.words.now) (Run options) is asked.0);
-        refused = λ tells options asked. absurd (none_no_call (call_in c.args.words.now) (Run options) is asked.0);
         settles_nothing = λ settles. end.trail ∙ c.none-in-Err-Usage.ensures;
-        headline = λ tells options asked. absurd (none_no_call (call_in c.args.words.now) (Run options) is asked.0);
-        comes = λ tells options asked. absurd (none_no_call (call_in c.args.words.now) (Run options) is asked.0);
-        keeps = λ options asked. absurd (none_no_call (call_in c.args.words.now) (Run options) is asked.0);
-        unfit = λ tells options asked. absurd (none_no_call (call_in c.args.words.now) (Run options) is asked.0);
+        comes = λ tells options asked. absurd (none_no_call (call_in c.args.words.now) (Run options) is asked);
+        keeps = λ options asked. absurd (none_no_call (call_in c.args.words.now) (Run options) is asked);
+        unfit = λ tells options asked. absurd (none_no_call (call_in c.args.words.now) (Run options) is asked);
         shows = λ tells partitions asked. absurd (none_no_call (call_in c.args.words.now) (Show partitions) is asked);
         writes_nothing = λ partitions asked. absurd (none_no_call (call_in c.args.words.now) (Show partitions) is asked);
       };
@@ -213,19 +146,7 @@ returns-in-Err-Memory g c =
       only_usage = λ usage. absurd (differ Memory Usage refl (sym end.cause ∙ usage));
       promises = record {
         idle = λ none. ap g.V.Site.history end.site;
-        answers = λ tells options asked. subst (CauseHolds (λ file. content_of file old)) (sym end.cause) tt;
-        untouched = λ options asked. subst (Untouched old now) (sym end.cause) tt;
-        refused = λ tells options asked refused. record { syncs = inl (ap g.V.Site.history end.site); nothing = end.trail ∙ c.none-in-Err-Memory.ensures };
         settles_nothing = λ settles. end.trail ∙ c.none-in-Err-Memory.ensures;
-        headline = λ tells options is job asks entries begin keeps given.
-            let old = g.V.Site.history c.args.site in
-            let site_is = c.end_with-in-Err-Memory.ensures.site in
-            let told = subst g.V.Site.tells site_is tells in
-            inr (record {
-              early = subst IsEarlyCause (sym c.end_with-in-Err-Memory.ensures.cause) tt;
-              nothing = c.end_with-in-Err-Memory.ensures.trail ∙ c.none-in-Err-Memory.ensures;
-              opening = subst (λ site. Always (IsOpening job entries old) old (g.V.Site.history site)) (sym site_is) (opening_first job entries old (λ f. g.met.V.Site.inside c.args.site f told));
-            });
         comes = λ tells options asked. inl (record { why = subst (RefusesInput (refusal_of options.partitions options.nodes (λ file. content_of file old))) (sym end.cause) tt; same = ap g.V.Site.history end.site; nothing = end.trail ∙ c.none-in-Err-Memory.ensures });
         keeps = λ options asked. subst (KeepsFiles options.partitions old now) (sym end.cause) tt;
         unfit = λ tells options asked unfit. record { syncs = (0, omega arith, inl (ap g.V.Site.history end.site)); nothing = end.trail ∙ c.none-in-Err-Memory.ensures };

@@ -1,8 +1,8 @@
 use Rattle.std.proofs.Common.{List, ap, arith, inl, inr, subst, ℕ, ◌<◌, ◌≡◌, ◌≤◌}
 use Rattle.engine_run.proofs.recorded.run_recorded.Goals as goal
 use Rattle.cluster_run.specs.Faults.{faults_of}
+use Rattle.engine_rounds.specs.Heard.{heard_of}
 use Rattle.engine_run.specs.Complete.{EndsSoundly}
-use Rattle.engine_run.specs.Ends.{terms_of}
 use Rattle.engine_run.specs.Promises.{Promises}
 use Rattle.site_calls.specs.Events.{Event, Tells, replay}
 use Rattle.site_calls.specs.Failures.{disk_failures, say_failures}
@@ -16,7 +16,7 @@ returns-clause-promises g c =
     let unseen = g.S.Start.unseen in
     let end = c.run.result in
     subst (λ (events : List Event). Promises c.args.words.now (Tells unseen (g.C.Calls.events (calls_of end.site))) (replay unseen events).steps (replay unseen (g.C.Calls.events (calls_of end.site))).steps
-    (λ options. terms_of options g.A.Activities.gives (g.K.Clock.given c.args.clock) (g.K.Clock.given end.clock) (g.K.Clock.latest end.clock)) end.trail end.cause)
+    (heard_of (g.K.Clock.given c.args.clock) (g.K.Clock.given end.clock) (g.K.Clock.latest end.clock)) end.trail end.cause)
     c.requires c.run.ensures.promises
 
 pub returns-clause-complete : goal.returns-clause-complete

@@ -1,8 +1,7 @@
 use Rattle.std.proofs.Common.{◌∙◌, inl, inr, ℕ, List, length, Err, refl, sym, ap, subst, le_trans, arith}
 use Rattle.std.proofs.Math.Nat.{le_of_eq}
-use Rattle.engine_run.specs.Opening.{IsLogCause, RefusesAs}
-use Rattle.engine_run.specs.Showing.{AreThere}
-use Rattle.engine_run.proofs.Early.{differ}
+use Rattle.engine_run.specs.Showing.{AreThere, IsLogCause, RefusesAs}
+use Rattle.engine_run.proofs.Causes.{differ}
 use Rattle.engine_run.proofs.Shown.{syncs_tape, flows_shown, logs_shown, are_there, table_shown, stopped, stops_shown}
 use Rattle.engine_run.proofs.showing.show.Goals as goal
 use Rattle.flow_syntax.specs.Views.{flows_of}

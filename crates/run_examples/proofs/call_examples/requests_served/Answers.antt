@@ -1,16 +1,16 @@
 use Rattle.std.proofs.Common.{◌≡◌, true, false, [], ◌∷◌, ◌++◌, List, Some, None, codes, refl, sym, ◌∙◌, ap, subst, arith}
 use Rattle.std.proofs.lemmas.List.Elements.{All-from_recursion}
 use Rattle.dura_model.specs.Legal.{Quiet, is_due}
-use Rattle.dura_model.specs.Partition.{fresh}
+use Rattle.dura_model.proofs.Kept.{fresh_empty}
+use Rattle.dura_model.specs.Partition.{fresh, shown}
 use Rattle.dura_model.specs.World.{World, empty}
 use Rattle.dura_value.specs.Messages.{Message}
 use Rattle.client_order.specs.Order.{no_later}
-use Rattle.end_laws.specs.Served.{AllServed, IsFirstOpen}
+use Rattle.end_laws.specs.Served.{AllServed, IsFirstOpen, IsWorldAfter}
 use Rattle.rest_laws.specs.Requests.{has_answer, first_open}
 use Rattle.part_items.specs.Examples.{request}
-use Rattle.dura_model.specs.Entries.{shown_by}
 use Rattle.request_reader.specs.Line.{Request}
-use Rattle.run_examples.specs.Calls.{no_flows, starting, answered}
+use Rattle.run_examples.specs.Calls.{no_flows, rules_for, starting, answered}
 use Rattle.run_rules.specs.Examples.{summing}
 use Rattle.run_examples.proofs.call_examples.requests_served.Goals as goal
 use Rattle.run_examples.proofs.Quiescent.{nobody_asks}
@@ -72,20 +72,15 @@ returns-clause-another_before c = λ waits. let wrong : false ≡ true = waits.f
 pub returns-clause-none_open : goal.returns-clause-none_open
 returns-clause-none_open c = λ number waits. cc waits.unanswered
 
+-- nothing was recovered, and nothing settled
+nothing_after : IsWorldAfter (rules_for []) [] (shown no_flows 1 fresh)
+nothing_after = record { states = fresh; made = refl; world = refl; legal = ap (λ (w : World). Some w) (sym (fresh_empty no_flows 1)) }
+
 pub returns-clause-done : goal.returns-clause-done
-returns-clause-done c = (
-  fresh 0,
-  refl,
-  nothing_left (shown_by no_flows (fresh 0)) (record {
-    delivered = λ from to stamp. refl;
-    finished = λ id task. refl;
-    fired = λ id task. refl;
-    asked = λ before r behind is. absurd (nobody_asks before r behind is);
-  }),
-)
+returns-clause-done c = (shown no_flows 1 fresh, nothing_after, subst (λ (w : World). AllServed no_flows [] w) (sym (fresh_empty no_flows 1)) (nothing_left empty quiet_at_first))
 
 pub returns-clause-not_done : goal.returns-clause-not_done
 returns-clause-not_done c = λ served.
-    let same : fresh 0 ≡ served.0 = cc served.1 in
-    let wrong : false ≡ true = ap (λ p. has_answer (shown_by no_flows p) (codes "a") starting) same ∙ served.2.answered 0 starting (omega arith) in
+    let same : empty ≡ served.0 = cc served.1.legal in
+    let wrong : false ≡ true = ap (λ (w : World). has_answer w (codes "a") starting) same ∙ served.2.answered 0 starting (omega arith) in
     cc wrong

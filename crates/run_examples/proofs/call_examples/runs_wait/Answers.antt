@@ -1,8 +1,7 @@
 use Rattle.std.proofs.Common.{◌≡◌, true, false, ℕ, [], ◌∷◌, ◌++◌, List, Some, codes, refl, sym, ◌∙◌, ap, subst}
 use Rattle.std.proofs.lemmas.List.Elements.{All-from_recursion}
 use Rattle.dura_model.specs.Legal.{Quiet, is_due}
-use Rattle.dura_model.specs.Partition.{Partition, fresh}
-use Rattle.dura_model.specs.World.{World}
+use Rattle.dura_model.specs.World.{World, empty}
 use Rattle.dura_value.specs.Messages.{Message}
 use Rattle.client_order.specs.Order.{no_later}
 use Rattle.end_laws.specs.Served.{IsFirstOpen}
@@ -78,14 +77,11 @@ returns-clause-out_of_turn c = record {
 pub returns-clause-in_turn : goal.returns-clause-in_turn
 returns-clause-in_turn c = λ number waits. let wrong : true ≡ false = waits.quiet.asked (request ∷ []) third.message [] refl in cc wrong
 
-pub returns-clause-waiting : goal.returns-clause-waiting
-returns-clause-waiting c = (held_back, refl, record { quiet = quiet_held; first = record { request = starting; unanswered = refl; number_is = refl; first = open_held.first } })
-
 pub returns-clause-not_waiting : goal.returns-clause-not_waiting
 returns-clause-not_waiting c = λ served. cc served.2.first.unanswered
 
 pub returns-clause-still_due : goal.returns-clause-still_due
 returns-clause-still_due c = λ served.
-    let same : served.0 ≡ fresh 0 = cc (served.1) in
-    let wrong : true ≡ false = subst (λ (p : Partition). is_due (shown_by no_flows p) [] request ≡ false) same (served.2.quiet.asked [] request [] refl) in
+    let same : served.0 ≡ empty = (let after : empty ≡ served.0 = cc served.1.legal in sym after) in
+    let wrong : true ≡ false = subst (λ (w : World). is_due w [] request ≡ false) same (served.2.quiet.asked [] request [] refl) in
     cc wrong

@@ -32,4 +32,4 @@ returns-clause-accepted c = refl
 
 pub returns-clause-damaged : goal.returns-clause-damaged
 unfolding header_at
-returns-clause-damaged c = λ flows left. cc left.on.kept
+returns-clause-damaged c = λ flows left. cc left.kept

@@ -1,15 +1,15 @@
 use Rattle.std.proofs.Common.{◌≡◌, true, false, [], ◌∷◌, codes, refl, arith}
 use Rattle.std.proofs.lemmas.List.Elements.{All-from_recursion, All-contains}
-use Rattle.engine_run.specs.Kept.{clashes}
+use Rattle.client_order.specs.Clashes.{clashes}
 use Rattle.client_order.specs.Order.{no_later}
 use Rattle.request_reader.specs.Line.{Request}
-use Rattle.run_examples.specs.Calls.{waiting, waiting_too, both_taken}
+use Rattle.run_examples.specs.Calls.{waiting, waiting_too, both_taken, taken_of}
 use Rattle.run_examples.proofs.refusal_examples.first_clashes.Goals as goal
 
 pub returns-clause-first : goal.returns-clause-first
 returns-clause-first c = record {
   there = record { request = waiting; asked = (1, omega arith, refl); client_is = refl; number_is = refl; clashes = refl };
-  first = All-from_recursion (λ (r : Request). clashes both_taken r ≡ true → no_later (codes "a", 1) (r.client, r.number) ≡ true) (waiting_too ∷ waiting ∷ []) ((λ is. refl), ((λ is. refl), tt));
+  first = All-from_recursion (λ (r : Request). clashes (taken_of both_taken) r ≡ true → no_later (codes "a", 1) (r.client, r.number) ≡ true) (waiting_too ∷ waiting ∷ []) ((λ is. refl), ((λ is. refl), tt));
 }
 
 pub returns-clause-second : goal.returns-clause-second
