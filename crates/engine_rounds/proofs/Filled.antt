@@ -1,9 +1,12 @@
 -- A log that was full when rounds ended.
-use Rattle.std.proofs.Common.{◌≡◌, ◌≤◌, ◌<◌, ◌∙◌, ℕ, List, sym, ap, subst, arith}
+use Rattle.std.proofs.Common.{◌≡◌, ◌≤◌, ◌<◌, ◌∙◌, inl, inr, ℕ, List, ◌++◌, Ok, sym, ap, subst, arith}
+use Rattle.std.specs.List.{All}
 use Rattle.cell_frames.specs.Fills.{WouldFill}
+use Rattle.cell_frames.specs.Joined.{view_of}
 use Rattle.commit_log.proofs.Written.{reads_closed}
 use Rattle.commit_log.specs.Segment.{segment, reading_of}
-use Rattle.engine_rounds.specs.Halts.{IsFull, HaltsFor}
+use Rattle.dura_model.specs.Entries.{placed}
+use Rattle.engine_rounds.specs.Halts.{HasSpent, IsFull, HaltsFor}
 use Rattle.gated_store.specs.declared.local.Gated as gated_types
 use Rattle.gated_store.specs.declared.store.GatedStore.{GatedStore}
 use Rattle.hub_store.specs.Changes.{trail_in, told_in}
@@ -17,13 +20,15 @@ use Rattle.hub_store.specs.declared.way.Way.{Way}
 use Rattle.hub_store.specs.declared.way.Way.TheVariants.{Resting, Bodied, Synced, Gated, Safe, BrokenBody, BrokenGate, Away}
 use Rattle.dura_value.specs.Items.{Entry}
 use Rattle.many_rules.specs.Local.{later_makes}
-use Rattle.many_rules.specs.Rules.{Rules}
-use Rattle.node_core.specs.Halts.{IsPast}
+use Rattle.many_rules.specs.Ours.{ours_later}
+use Rattle.many_rules.specs.Rules.{Rules, IsOurs, pairs_of}
+use Rattle.node_core.specs.Halts.{IsPast, IsSpent}
 use Rattle.node_core.specs.declared.halt.Halt.{Halt}
 use Rattle.node_core.specs.declared.halt.Halt.TheVariants as halts
 use Rattle.part_items.specs.Spelling.{spell_frame}
 use Rattle.site_model.specs.History.{Step, changes_of, content_of}
 use Rattle.site_model.specs.declared.site.Site as sites
+use Rattle.spec_cell.specs.Views.{CellView}
 use Rattle.std.specs.Prelude.{◌+◌, length}
 
 -- where a log at rest ends, and what it reads as
@@ -62,10 +67,27 @@ module _ {V L : Type 0} {G : sites.Ghosts V} {K : starts.Ghosts (gated_types.Gat
         stands = end.stands;
       }
 
-  pub halts_for : (halt : Halt) → IsPast rules store halt → HaltsFor rules o store.logs.segment latest (G.tells store.logs.site) (G.history store.logs.site) (trail_in store.logs) (told_in store.logs) halt
-  halts_for (halts.Full partition length) past = is_full partition length past
-  halts_for (halts.Spent partition number) past = past
-  halts_for halts.SiteFault past = tt
-  halts_for halts.SayFault past = tt
-  halts_for halts.ClockFault past = tt
-  halts_for halts.Memory past = tt
+  has_spent : (cells : List CellView) (p n : ℕ) → IsSpent rules (view_of store) cells p n → HasSpent rules latest (trail_in store.logs) (told_in store.logs) p n
+  has_spent cells p n spent =
+      let c = spent.cell in
+      let goes = spent.joined.goes in
+      let told = pairs_of (told_in store.logs) in
+      record {
+        held = c.entries;
+        ours = subst (λ (k : ℕ). All (IsOurs rules latest told k) c.entries) goes.number (λ k d inside. ours_later rules store.logs.latest c.number _ latest told above (goes.ours.ours k d inside));
+        incarnation = c.incarnation;
+        of_call = goes.of_call;
+        comes = elim spent.comes [
+          | inl at ↦ inl (at.0, subst (λ (l : List Entry). placed rules.flows rules.count (rules.begin p) (l ++ c.entries) ≡ Ok at.0) goes.mine (subst (λ (k : ℕ). placed rules.flows rules.count (rules.begin k) (c.slot.mine ++ c.entries) ≡ Ok at.0) goes.number at.1), at.2)
+          | inr other ↦ inr other
+        ];
+        past = spent.past;
+      }
+
+  pub halts_for : (cells : List CellView) (halt : Halt) → IsPast rules store cells halt → HaltsFor rules o store.logs.segment latest (G.tells store.logs.site) (G.history store.logs.site) (trail_in store.logs) (told_in store.logs) halt
+  halts_for cells (halts.Full partition length) past = is_full partition length past
+  halts_for cells (halts.Spent partition number) past = has_spent cells partition number past
+  halts_for cells halts.SiteFault past = tt
+  halts_for cells halts.SayFault past = tt
+  halts_for cells halts.ClockFault past = tt
+  halts_for cells halts.Memory past = tt

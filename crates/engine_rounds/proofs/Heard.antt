@@ -1,5 +1,5 @@
 -- A moment comes to the store and to all cells.
-use Rattle.std.proofs.Common.{◌≡◌, ◌≢◌, ◌≤◌, ◌<◌, ◌+◌, ◌∙◌, inl, inr, ℕ, max, List, length, Some, slice_get, refl, sym, ap, subst, arith}
+use Rattle.std.proofs.Common.{◌≡◌, ◌≢◌, ◌≤◌, ◌<◌, ◌+◌, ◌∙◌, inl, inr, ℕ, max, List, length, take, Some, slice_get, refl, sym, ap, subst, arith}
 use Rattle.std.proofs.lemmas.Bool.{cases_eq, cases_lt}
 use Rattle.std.proofs.lemmas.Option.{slice_get_within}
 use Rattle.cell_frames.proofs.ByItself.{fired_joined}
@@ -58,6 +58,7 @@ module _ {V L : Type 0} {G : sites.Ghosts V} {K : starts.Ghosts (gated_types.Gat
     some = r.some;
     few = r.few;
     many = many ∙ r.many;
+    short = λ p c has. let was = heard p c has in let same = ap (λ (v : CellView). length (take v.out v.entries)) was.2 in let low = r.short p was.0 was.1 in omega (arith, same, low);
     kept = kept;
     still = halted ∙ r.still;
     whole = cut ∙ r.whole;

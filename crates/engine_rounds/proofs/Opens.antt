@@ -1,8 +1,11 @@
 -- A call begins to serve clients.
-use Rattle.std.proofs.Common.{◌++◌, ◌≡◌, ◌≤◌, ◌<◌, ℕ, List, Option, Some, None, Result, Ok, Err, refl, sym, ap, subst, length}
+use Rattle.std.proofs.Common.{◌++◌, ◌≡◌, ◌≤◌, ◌<◌, inl, inr, ℕ, List, Option, Some, None, Result, Ok, Err, refl, sym, ap, subst, arith, length, take}
+use Rattle.std.proofs.lemmas.Bool.{cases_lt}
+use Rattle.std.proofs.lemmas.Option.{slice_get_within}
 use Rattle.std.specs.Result.{is_err}
 use Rattle.std.specs.Prelude.{IfSome, OnOk, false, true}
 use Rattle.call_begins.specs.Begins.{IsUntouched}
+use Rattle.cell_frames.proofs.Calls.{rests_none}
 use Rattle.cell_frames.specs.Begun.{HasBegun}
 use Rattle.cell_frames.specs.Joined.{view_of}
 use Rattle.client_port.specs.Ports.{Queue, queues_of}
@@ -16,12 +19,13 @@ use Rattle.gated_store.specs.declared.local.Gated as gated_types
 use Rattle.gated_store.specs.declared.store.GatedStore.{GatedStore}
 use Rattle.hub_store.specs.Origin.{Origin}
 use Rattle.hub_store.specs.Trail.{Settled}
+use Rattle.hub_store.specs.Ways.{way_of}
 use Rattle.hub_store.specs.declared.start.Start as starts
 use Rattle.many_logs.specs.Labels.{labels_of_commits}
 use Rattle.many_logs.specs.Placing.{frames_in_order}
 use Rattle.many_rules.specs.Leaves.{StandsOn}
 use Rattle.many_rules.specs.Rules.{Rules, commits_of}
-use Rattle.node_core.specs.Running.{Keeps}
+use Rattle.node_core.specs.Running.{HaveShortFrames, Keeps}
 use Rattle.node_core.specs.declared.halt.Halt.{Halt}
 use Rattle.open_logs.specs.Spent.{OnlySynced, WhyUnopened}
 use Rattle.open_logs.specs.declared.error.OpenError.{OpenError}
@@ -36,11 +40,21 @@ use Rattle.site_model.specs.declared.site.Site as sites
 use Rattle.spec_cell.specs.Views.{CellView}
 use Rattle.world_steps.specs.Cells.{AllJoined}
 
+-- where logs rest no frame is out of a cell
+untouched_short : {V L : Type 0} {G : sites.Ghosts V} {K : starts.Ghosts (gated_types.Gated L)} (rules : Rules) (store : GatedStore V L G K) (cells : List CellView) → length cells ≡ rules.count → IsUntouched rules.count store → AllJoined rules (view_of store) cells → HaveShortFrames cells
+untouched_short rules store cells many untouched joined p c has = elim (cases_lt 0 c.out) [
+  | inl some ↦
+      let low : p < length cells = slice_get_within cells p c has in
+      let none = rests_none (way_of store.logs.ways.items p) (untouched.rest p (omega (arith, low, many))) in
+      absurd (cc (none, (joined p c has).1.out.goes some))
+  | inr none ↦ let zero : c.out ≡ 0 = omega (arith, none) in let long = ap (λ (n : ℕ). length (take n c.entries)) zero in omega (arith, long)
+]
+
 -- nothing was settled or said, and the port is new
 pub first_serves : {V L : Type 0} {G : sites.Ghosts V} {K : starts.Ghosts (gated_types.Gated L)} (o : Origin) (rules : Rules) (store : GatedStore V L G K) (cells : List CellView) (queues : List Queue) → HasBegun o rules → rules.serves ≡ true → 0 < rules.count → rules.count ≤ 32 → length cells ≡ rules.count
     → Keeps o rules store → IsUntouched rules.count store → AllJoined rules (view_of store) cells → queues ≡ queues_of rules.requests → IsServing o rules store cells queues
 first_serves o rules store cells queues begun serves some few many kept untouched joined port = record {
-  running = record { begun = begun; serves = serves; some = some; few = few; many = many; kept = kept; still = untouched.going; whole = untouched.whole; joined = joined };
+  running = record { begun = begun; serves = serves; some = some; few = few; many = many; short = untouched_short rules store cells many untouched joined; kept = kept; still = untouched.going; whole = untouched.whole; joined = joined };
   said = said_first rules.requests _ queues untouched.told port;
 }
 

@@ -36,6 +36,7 @@ use Rattle.open_logs.specs.declared.begun.Begun.{Begun}
 use Rattle.open_logs.specs.declared.error.OpenError.{OpenError}
 use Rattle.part_steps.specs.States.{parts_in}
 use Rattle.request_reader.specs.Line.{Request}
+use Rattle.round_steps.specs.Labels.{AreFew}
 use Rattle.round_steps.specs.Serving.{HasSaid}
 use Rattle.site_model.specs.History.{Step, IsImage, back_to, content_of}
 use Rattle.site_model.specs.Moments.{Always}
@@ -65,10 +66,12 @@ LeavesRuns rules latest digest o new trail = (moment : ℕ) → length o.steps �
 
 -- Unless saying failed, the tape goes on by one line for each of these requests, which answers it. Where rounds ended, that is what the port
 -- has said, and they ended for this cause; and where they halted, a full log was so by a frame that may come behind what was settled and said.
+-- And fewer labels were settled than are enough and those of a frame of each partition.
 pub record SaysOn (rules : Rules) (o : Origin) (limit most latest : ℕ) (tells : Type 0) (now : List Step) (trail : List Settled) (came : Came) (port : Option (List Queue)) : Type 0 where
   pub told : List Said
   pub queues : List Queue
   pub port_is : port ≡ Some queues
+  pub few : AreFew rules most trail
   pub says : tells → came ≢ cames.Halted halts.SayFault → SaysAll rules o.steps now trail told
   pub halts : (halt : Halt) → came ≡ cames.Halted halt → HaltsFor rules o limit latest tells now trail told halt
   pub ends : (end : End) → came ≡ cames.Ended end → HasSaid rules.requests told queues × EndsAs rules most trail queues end

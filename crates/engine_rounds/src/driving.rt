@@ -6,7 +6,7 @@ ghost use Rattle.engine_rounds.specs.Ends.{EndsAs};
 ghost use Rattle.engine_rounds.specs.Heard.{ByClock};
 ghost use Rattle.hub_store.specs.Changes.{trail_in};
 ghost use Rattle.engine_rounds.specs.Held.{NoneHeld};
-ghost use Rattle.round_steps.specs.Labels.{IsCounted, settled_labels};
+ghost use Rattle.round_steps.specs.Labels.{AreFew, IsCounted, settled_labels};
 ghost use Rattle.round_steps.specs.Serving.{GoesOn, IsServing};
 ghost use Rattle.node_core.specs.Halts.{IsPast, RisesFor};
 ghost use Rattle.node_core.specs.Running.{IsRunning, Keeps};
@@ -54,10 +54,11 @@ fn hear_clock<V: Site, M: Picked, C: Clock>(
     ensures rises { IfErr result (RisesFor (V.disk_faults store.old.logs.site)
         (V.say_faults store.old.logs.site) (V.disk_faults store.new.logs.site)
         (V.say_faults store.new.logs.site)) }
-    ensures past { IfErr result (IsPast M.rules store.new) }
+    ensures past { IfErr result (IsPast M.rules store.new cells.new.items) }
     ensures clock { result ≡ Err Halt.ClockFault
         → HasRisen (C.clock_faults clock.old) (C.clock_faults clock.new) }
     ensures ticks { C.clock_faults clock.old ≤ C.clock_faults clock.new }
+    ensures trail { trail_in store.new.logs ≡ trail_in store.old.logs }
     ensures latest { C.latest clock.old ≤ C.latest clock.new }
     ensures heard { store.old.logs.latest ≤ C.latest clock.old
         → store.new.logs.latest ≤ C.latest clock.new }
@@ -86,19 +87,22 @@ fn go_once<V: Site, M: Picked, R: Reactions, A: Activities, C: Clock>(
 ) -> Result<(), Halt>
     requires serving { IsServing M.origin M.rules store.old cells.old.items course.old.port }
     requires none { NoneHeld cells.old.items }
+    requires counted { IsCounted course.old.seen (trail_in store.old.logs) }
     requires enough { settled_labels (trail_in store.old.logs) < pace.now.steps }
     requires flows { R.flows reactions.now ≡ M.rules.flows }
     requires some { 0 < pace.now.batch }
     requires few { pace.now.batch ≤ 64 }
     requires bound { pace.now.batch ≤ M.rules.most }
     ensures goes { GoesOn M.rules store.old store.new }
+    ensures fewer { AreFew M.rules pace.now.steps (trail_in store.old.logs)
+        → AreFew M.rules pace.now.steps (trail_in store.new.logs) }
     ensures kept { Keeps M.origin M.rules store.new }
     ensures whole { result ≢ Err Halt.SayFault → store.new.logs.cut ≡ false }
     ensures serving { OnOk result (IsServing M.origin M.rules store.new cells.new.items course.new.port) }
     ensures rises { IfErr result (RisesFor (V.disk_faults store.old.logs.site)
         (V.say_faults store.old.logs.site) (V.disk_faults store.new.logs.site)
         (V.say_faults store.new.logs.site)) }
-    ensures past { IfErr result (IsPast M.rules store.new) }
+    ensures past { IfErr result (IsPast M.rules store.new cells.new.items) }
     ensures clock { result ≡ Err Halt.ClockFault
         → HasRisen (C.clock_faults clock.old) (C.clock_faults clock.new) }
     ensures ticks { C.clock_faults clock.old ≤ C.clock_faults clock.new }
@@ -107,7 +111,7 @@ fn go_once<V: Site, M: Picked, R: Reactions, A: Activities, C: Clock>(
         → store.new.logs.latest ≤ C.latest clock.new }
     ensures by_clock { ByClock M.rules pace.now.steps (C.given clock.old) store.old (C.given clock.new)
         store.new }
-    ensures seen { course.new.seen ≡ course.old.seen }
+    ensures counted { OnOk result (IsCounted course.new.seen (trail_in store.new.logs)) }
 {
     hear_clock(clock, store, cells, course, pace.steps)?;
     round(alloc, reactions, acts, store, cells, course, pace)
@@ -134,13 +138,15 @@ fn go_round<V: Site, M: Picked, R: Reactions, A: Activities, C: Clock>(
     requires few { pace.now.batch ≤ 64 }
     requires bound { pace.now.batch ≤ M.rules.most }
     ensures goes { GoesOn M.rules store.old store.new }
+    ensures fewer { AreFew M.rules pace.now.steps (trail_in store.old.logs)
+        → AreFew M.rules pace.now.steps (trail_in store.new.logs) }
     ensures kept { Keeps M.origin M.rules store.new }
     ensures whole { result ≢ Err Halt.SayFault → store.new.logs.cut ≡ false }
     ensures serving { OnOk result (IsServing M.origin M.rules store.new cells.new.items course.new.port) }
     ensures rises { IfErr result (RisesFor (V.disk_faults store.old.logs.site)
         (V.say_faults store.old.logs.site) (V.disk_faults store.new.logs.site)
         (V.say_faults store.new.logs.site)) }
-    ensures past { IfErr result (IsPast M.rules store.new) }
+    ensures past { IfErr result (IsPast M.rules store.new cells.new.items) }
     ensures clock { result ≡ Err Halt.ClockFault
         → HasRisen (C.clock_faults clock.old) (C.clock_faults clock.new) }
     ensures ticks { C.clock_faults clock.old ≤ C.clock_faults clock.new }
@@ -152,10 +158,11 @@ fn go_round<V: Site, M: Picked, R: Reactions, A: Activities, C: Clock>(
     ensures counted { OnOk result (IsCounted course.new.seen (trail_in store.new.logs)) }
     ensures still { result ≡ Ok false → course.new.seen.labels ≡ course.old.seen.labels }
 {
+    let before = course.seen.labels;
     go_once(alloc, reactions, acts, clock, store, cells, course, pace)?;
-    let went = follow(alloc, store, cells, course, clients, pace.mode)?;
-    let labels = serve_reached(alloc, store, cells, &mut course.port, &mut course.seen)?;
-    if labels == 0 {
+    let went = follow(alloc, store, cells, course, clients, pace)?;
+    serve_reached(alloc, store, cells, course)?;
+    if course.seen.labels == before {
         return Ok(went);
     }
     tidy(alloc, store, cells, course, pace.mode)?;
@@ -186,32 +193,35 @@ fn stop_long<V: Site, M: Picked>(
     }
 }
 
-/// All that isn't settled is given up, and all that is settled was seen then. It says how many labels were settled by it.
+/// All that isn't settled is given up, and all that is settled was seen then. It says whether labels were settled by it.
 fn give_up<V: Site, M: Picked>(
     alloc: Global,
     store: &mut GatedStore<V, ByRules<M>>,
     cells: &mut Vec<Cell<Seat<M>>>,
     course: &mut Course,
-    mode: Mode,
-) -> Result<u64, Halt>
+    pace: &Pace,
+) -> Result<bool, Halt>
     requires serving { IsServing M.origin M.rules store.old cells.old.items course.old.port }
     requires counted { IsCounted course.old.seen (trail_in store.old.logs) }
     ensures goes { GoesOn M.rules store.old store.new }
+    ensures fewer { AreFew M.rules pace.now.steps (trail_in store.old.logs)
+        → AreFew M.rules pace.now.steps (trail_in store.new.logs) }
     ensures kept { Keeps M.origin M.rules store.new }
     ensures whole { result ≢ Err Halt.SayFault → store.new.logs.cut ≡ false }
     ensures serving { OnOk result (IsServing M.origin M.rules store.new cells.new.items course.new.port) }
     ensures rises { IfErr result (RisesFor (V.disk_faults store.old.logs.site)
         (V.say_faults store.old.logs.site) (V.disk_faults store.new.logs.site)
         (V.say_faults store.new.logs.site)) }
-    ensures past { IfErr result (IsPast M.rules store.new) }
+    ensures past { IfErr result (IsPast M.rules store.new cells.new.items) }
     ensures clock { result ≢ Err Halt.ClockFault }
     ensures latest { store.new.logs.latest ≡ store.old.logs.latest }
     ensures counted { OnOk result (IsCounted course.new.seen (trail_in store.new.logs)) }
-    ensures adds { IfOk result (λ n. course.new.seen.labels ≡ course.old.seen.labels + n) }
+    ensures still { result ≡ Ok false → course.new.seen.labels ≡ course.old.seen.labels }
 {
-    own_all(alloc, store, cells, course, mode)?;
-    let labels = serve_reached(alloc, store, cells, &mut course.port, &mut course.seen)?;
-    Ok(labels)
+    let before = course.seen.labels;
+    own_all(alloc, store, cells, course, pace)?;
+    serve_reached(alloc, store, cells, course)?;
+    Ok(course.seen.labels != before)
 }
 
 /// One round, and where it added nothing, what is possible without it. It says where rounds end, where they do.
@@ -234,13 +244,15 @@ fn go_on<V: Site, M: Picked, R: Reactions, A: Activities, C: Clock>(
     requires few { pace.now.batch ≤ 64 }
     requires bound { pace.now.batch ≤ M.rules.most }
     ensures goes { GoesOn M.rules store.old store.new }
+    ensures fewer { AreFew M.rules pace.now.steps (trail_in store.old.logs)
+        → AreFew M.rules pace.now.steps (trail_in store.new.logs) }
     ensures kept { Keeps M.origin M.rules store.new }
     ensures whole { result ≢ Err Halt.SayFault → store.new.logs.cut ≡ false }
     ensures serving { OnOk result (IsServing M.origin M.rules store.new cells.new.items course.new.port) }
     ensures rises { IfErr result (RisesFor (V.disk_faults store.old.logs.site)
         (V.say_faults store.old.logs.site) (V.disk_faults store.new.logs.site)
         (V.say_faults store.new.logs.site)) }
-    ensures past { IfErr result (IsPast M.rules store.new) }
+    ensures past { IfErr result (IsPast M.rules store.new cells.new.items) }
     ensures clock { result ≡ Err Halt.ClockFault
         → HasRisen (C.clock_faults clock.old) (C.clock_faults clock.new) }
     ensures ticks { C.clock_faults clock.old ≤ C.clock_faults clock.new }
@@ -258,7 +270,7 @@ fn go_on<V: Site, M: Picked, R: Reactions, A: Activities, C: Clock>(
     }
     if holds_some(cells) {
         course.lacking = true;
-        give_up(alloc, store, cells, course, pace.mode)?;
+        give_up(alloc, store, cells, course, pace)?;
         return Ok(None);
     }
     if go_round(
@@ -266,8 +278,7 @@ fn go_on<V: Site, M: Picked, R: Reactions, A: Activities, C: Clock>(
     )? {
         return Ok(None);
     }
-    let settled = give_up(alloc, store, cells, course, pace.mode)?;
-    if settled > 0 {
+    if give_up(alloc, store, cells, course, pace)? {
         return Ok(None);
     }
     match pump(
@@ -299,13 +310,15 @@ pub fn drive<V: Site, M: Picked, R: Reactions, A: Activities, C: Clock>(
     requires few { pace.now.batch ≤ 64 }
     requires bound { pace.now.batch ≤ M.rules.most }
     ensures goes { GoesOn M.rules store.old store.new }
+    ensures fewer { AreFew M.rules pace.now.steps (trail_in store.old.logs)
+        → AreFew M.rules pace.now.steps (trail_in store.new.logs) }
     ensures kept { Keeps M.origin M.rules store.new }
     ensures whole { result ≢ Err Halt.SayFault → store.new.logs.cut ≡ false }
     ensures serving { OnOk result (IsServing M.origin M.rules store.new cells.new.items course.new.port) }
     ensures rises { IfErr result (RisesFor (V.disk_faults store.old.logs.site)
         (V.say_faults store.old.logs.site) (V.disk_faults store.new.logs.site)
         (V.say_faults store.new.logs.site)) }
-    ensures past { IfErr result (IsPast M.rules store.new) }
+    ensures past { IfErr result (IsPast M.rules store.new cells.new.items) }
     ensures clock { result ≡ Err Halt.ClockFault
         → HasRisen (C.clock_faults clock.old) (C.clock_faults clock.new) }
     ensures ticks { C.clock_faults clock.old ≤ C.clock_faults clock.new }

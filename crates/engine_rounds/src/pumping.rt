@@ -5,7 +5,7 @@ ghost use Rattle.cell_frames.specs.Joined.{StoreView, view_of};
 ghost use Rattle.engine_rounds.specs.Adding.{Adds, HasLostNode, MayAdd};
 ghost use Rattle.engine_rounds.specs.Heard.{ByClock};
 ghost use Rattle.engine_rounds.specs.Held.{HaveHeard, NoneHeld};
-ghost use Rattle.round_steps.specs.Labels.{IsCounted, settled_labels};
+ghost use Rattle.round_steps.specs.Labels.{AreFew, IsCounted, settled_labels};
 ghost use Rattle.round_steps.specs.Serving.{GoesOn, IsServing};
 ghost use Rattle.node_core.specs.Halts.{IsPast, RisesFor};
 ghost use Rattle.client_port.specs.Clients.{clients_of};
@@ -202,7 +202,7 @@ fn gather<V: Site, M: Picked, A: Activities>(
     ensures rises { IfErr result (RisesFor (V.disk_faults store.old.logs.site)
         (V.say_faults store.old.logs.site) (V.disk_faults store.new.logs.site)
         (V.say_faults store.new.logs.site)) }
-    ensures past { IfErr result (IsPast M.rules store.new) }
+    ensures past { IfErr result (IsPast M.rules store.new cells.new.items) }
     ensures clock { result ≢ Err Halt.ClockFault }
     ensures latest { store.new.logs.latest ≡ store.old.logs.latest }
     ensures trail { trail_in store.new.logs ≡ trail_in store.old.logs }
@@ -237,22 +237,26 @@ fn push<V: Site, M: Picked, R: Reactions, A: Activities>(
     requires few { pace.now.batch ≤ 64 }
     requires bound { pace.now.batch ≤ M.rules.most }
     ensures goes { GoesOn M.rules store.old store.new }
+    ensures fewer { AreFew M.rules pace.now.steps (trail_in store.old.logs)
+        → AreFew M.rules pace.now.steps (trail_in store.new.logs) }
     ensures kept { Keeps M.origin M.rules store.new }
     ensures whole { result ≢ Err Halt.SayFault → store.new.logs.cut ≡ false }
     ensures serving { OnOk result (IsServing M.origin M.rules store.new cells.new.items course.new.port) }
     ensures rises { IfErr result (RisesFor (V.disk_faults store.old.logs.site)
         (V.say_faults store.old.logs.site) (V.disk_faults store.new.logs.site)
         (V.say_faults store.new.logs.site)) }
-    ensures past { IfErr result (IsPast M.rules store.new) }
+    ensures past { IfErr result (IsPast M.rules store.new cells.new.items) }
     ensures clock { result ≢ Err Halt.ClockFault }
     ensures latest { store.new.logs.latest ≡ store.old.logs.latest }
     ensures adds { IfOk result (λ both. settled_labels (trail_in store.new.logs)
         ≡ settled_labels (trail_in store.old.logs) + both.1) }
     ensures counted { OnOk result (IsCounted course.new.seen (trail_in store.new.logs)) }
 {
+    let before = course.seen.labels;
     gather(alloc, acts, store, cells, course, clients, pace.seed)?;
     let turned = step_and_commit(alloc, reactions, store, cells, course, 0, pace, 1)?;
-    let labels = serve_reached(alloc, store, cells, &mut course.port, &mut course.seen)?;
+    serve_reached(alloc, store, cells, course)?;
+    let labels = course.seen.labels - before;
     Ok((turned, labels))
 }
 
@@ -285,18 +289,20 @@ fn give_up_seen<V: Site, M: Picked>(
     store: &mut GatedStore<V, ByRules<M>>,
     cells: &mut Vec<Cell<Seat<M>>>,
     course: &mut Course,
-    mode: Mode,
+    pace: &Pace,
 ) -> Result<Option<Pumped>, Halt>
     requires serving { IsServing M.origin M.rules store.old cells.old.items course.old.port }
     requires counted { IsCounted course.old.seen (trail_in store.old.logs) }
     ensures goes { GoesOn M.rules store.old store.new }
+    ensures fewer { AreFew M.rules pace.now.steps (trail_in store.old.logs)
+        → AreFew M.rules pace.now.steps (trail_in store.new.logs) }
     ensures kept { Keeps M.origin M.rules store.new }
     ensures whole { result ≢ Err Halt.SayFault → store.new.logs.cut ≡ false }
     ensures serving { OnOk result (IsServing M.origin M.rules store.new cells.new.items course.new.port) }
     ensures rises { IfErr result (RisesFor (V.disk_faults store.old.logs.site)
         (V.say_faults store.old.logs.site) (V.disk_faults store.new.logs.site)
         (V.say_faults store.new.logs.site)) }
-    ensures past { IfErr result (IsPast M.rules store.new) }
+    ensures past { IfErr result (IsPast M.rules store.new cells.new.items) }
     ensures clock { result ≢ Err Halt.ClockFault }
     ensures latest { store.new.logs.latest ≡ store.old.logs.latest }
     ensures kind { IfOk result (λ come. IfSome come (λ one. (labels : ℕ)
@@ -304,8 +310,10 @@ fn give_up_seen<V: Site, M: Picked>(
     ensures adds { IfOk result (MayAdd (trail_in store.old.logs) (trail_in store.new.logs)) }
     ensures counted { OnOk result (IsCounted course.new.seen (trail_in store.new.logs)) }
 {
-    own_all(alloc, store, cells, course, mode)?;
-    let labels = serve_reached(alloc, store, cells, &mut course.port, &mut course.seen)?;
+    let before = course.seen.labels;
+    own_all(alloc, store, cells, course, pace)?;
+    serve_reached(alloc, store, cells, course)?;
+    let labels = course.seen.labels - before;
     if labels > 0 {
         Ok(Some(Pumped::Labels(labels)))
     } else {
@@ -335,7 +343,7 @@ fn wait_on<V: Site, M: Picked, C: Clock>(
     ensures rises { IfErr result (RisesFor (V.disk_faults store.old.logs.site)
         (V.say_faults store.old.logs.site) (V.disk_faults store.new.logs.site)
         (V.say_faults store.new.logs.site)) }
-    ensures past { IfErr result (IsPast M.rules store.new) }
+    ensures past { IfErr result (IsPast M.rules store.new cells.new.items) }
     ensures clock { result ≡ Err Halt.ClockFault
         → HasRisen (C.clock_faults clock.old) (C.clock_faults clock.new) }
     ensures ticks { C.clock_faults clock.old ≤ C.clock_faults clock.new }
@@ -382,13 +390,15 @@ fn push_on<V: Site, M: Picked, R: Reactions, A: Activities, C: Clock>(
     requires few { pace.now.batch ≤ 64 }
     requires bound { pace.now.batch ≤ M.rules.most }
     ensures goes { GoesOn M.rules store.old store.new }
+    ensures fewer { AreFew M.rules pace.now.steps (trail_in store.old.logs)
+        → AreFew M.rules pace.now.steps (trail_in store.new.logs) }
     ensures kept { Keeps M.origin M.rules store.new }
     ensures whole { result ≢ Err Halt.SayFault → store.new.logs.cut ≡ false }
     ensures serving { OnOk result (IsServing M.origin M.rules store.new cells.new.items course.new.port) }
     ensures rises { IfErr result (RisesFor (V.disk_faults store.old.logs.site)
         (V.say_faults store.old.logs.site) (V.disk_faults store.new.logs.site)
         (V.say_faults store.new.logs.site)) }
-    ensures past { IfErr result (IsPast M.rules store.new) }
+    ensures past { IfErr result (IsPast M.rules store.new cells.new.items) }
     ensures clock { result ≡ Err Halt.ClockFault
         → HasRisen (C.clock_faults clock.old) (C.clock_faults clock.new) }
     ensures ticks { C.clock_faults clock.old ≤ C.clock_faults clock.new }
@@ -415,7 +425,7 @@ fn push_on<V: Site, M: Picked, R: Reactions, A: Activities, C: Clock>(
         return Ok(None);
     }
     if holds_some(cells) {
-        return give_up_seen(alloc, store, cells, course, pace.mode);
+        return give_up_seen(alloc, store, cells, course, pace);
     }
     wait_on(alloc, clock, store, cells, course, clients, pace.steps)
 }
@@ -442,13 +452,15 @@ pub fn pump<V: Site, M: Picked, R: Reactions, A: Activities, C: Clock>(
     requires few { pace.now.batch ≤ 64 }
     requires bound { pace.now.batch ≤ M.rules.most }
     ensures goes { GoesOn M.rules store.old store.new }
+    ensures fewer { AreFew M.rules pace.now.steps (trail_in store.old.logs)
+        → AreFew M.rules pace.now.steps (trail_in store.new.logs) }
     ensures kept { Keeps M.origin M.rules store.new }
     ensures whole { result ≢ Err Halt.SayFault → store.new.logs.cut ≡ false }
     ensures serving { OnOk result (IsServing M.origin M.rules store.new cells.new.items course.new.port) }
     ensures rises { IfErr result (RisesFor (V.disk_faults store.old.logs.site)
         (V.say_faults store.old.logs.site) (V.disk_faults store.new.logs.site)
         (V.say_faults store.new.logs.site)) }
-    ensures past { IfErr result (IsPast M.rules store.new) }
+    ensures past { IfErr result (IsPast M.rules store.new cells.new.items) }
     ensures clock { result ≡ Err Halt.ClockFault
         → HasRisen (C.clock_faults clock.old) (C.clock_faults clock.new) }
     ensures ticks { C.clock_faults clock.old ≤ C.clock_faults clock.new }

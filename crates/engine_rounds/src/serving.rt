@@ -9,7 +9,7 @@ ghost use Rattle.commit_gate.specs.Ledgers.{log_length};
 ghost use Rattle.engine_rounds.specs.Ends.{EndsAs};
 ghost use Rattle.engine_rounds.specs.Heard.{ByClock, GoesByClock, heard_of};
 ghost use Rattle.engine_rounds.specs.Served.{IsServed, LeavesRuns, SaysOn, came_of as came_from, refusal_in};
-ghost use Rattle.round_steps.specs.Labels.{IsCounted};
+ghost use Rattle.round_steps.specs.Labels.{AreFew, IsCounted};
 ghost use Rattle.round_steps.specs.Serving.{GoesOn, IsServing};
 ghost use Rattle.gated_store.specs.Causal.{Causal};
 ghost use Rattle.gated_store.specs.Follows.{ledgers_at};
@@ -170,6 +170,7 @@ fn course_of(
             entries: 0,
             labels: 0,
         },
+        reached: Vec::new(alloc),
         lacking: false,
         disturbed: disturb.twice > 0 || disturb.drop > 0 || disturb.hold > 0,
     };
@@ -214,13 +215,15 @@ fn drive_since<V: Site, M: Picked, R: Reactions, A: Activities, C: Clock>(
     requires few { pace.now.batch ≤ 64 }
     requires bound { pace.now.batch ≤ M.rules.most }
     ensures goes { GoesOn M.rules store.old store.new }
+    ensures fewer { AreFew M.rules pace.now.steps (trail_in store.old.logs)
+        → AreFew M.rules pace.now.steps (trail_in store.new.logs) }
     ensures kept { Keeps M.origin M.rules store.new }
     ensures whole { result ≢ Err Halt.SayFault → store.new.logs.cut ≡ false }
     ensures serving { OnOk result (IsServing M.origin M.rules store.new cells.new.items course.new.port) }
     ensures rises { IfErr result (RisesFor (V.disk_faults store.old.logs.site)
         (V.say_faults store.old.logs.site) (V.disk_faults store.new.logs.site)
         (V.say_faults store.new.logs.site)) }
-    ensures past { IfErr result (IsPast M.rules store.new) }
+    ensures past { IfErr result (IsPast M.rules store.new cells.new.items) }
     ensures clock { was_heard ≡ true → result ≡ Err Halt.ClockFault
         → HasRisen (C.clock_faults clock.old) (C.clock_faults clock.new) }
     ensures ticks { C.clock_faults clock.old ≤ C.clock_faults clock.new }

@@ -1,5 +1,5 @@
 -- What was settled stays so, whatever a call on frames comes to.
-use Rattle.std.proofs.Common.{◌≡◌, ◌⊎◌, ◌≤◌, inl, inr, ◌∙◌, ℕ, max, true, List, [], ◌∷◌, ◌++◌, take, drop, Result, Ok, Err, refl, sym, ap, subst, arith, append_assoc, append-nil}
+use Rattle.std.proofs.Common.{◌≡◌, ◌≤◌, inl, inr, ◌∙◌, ℕ, max, true, List, [], ◌∷◌, ◌++◌, length, take, drop, Result, Ok, Err, sym, ap, subst, arith, append_assoc, append-nil}
 use Rattle.std.specs.List.{All}
 use Rattle.std.proofs.lemmas.List.{take-append-drop}
 use Rattle.std.proofs.lemmas.List.Elements.{All-append, All-cons, All-nil, All-head, All-tail}
@@ -8,7 +8,7 @@ use Rattle.std.specs.declared.vec.Vec.{Vec}
 use Rattle.commit_gate.proofs.Going.{all_front}
 use Rattle.cell_frames.specs.Joined.{StoreView, Joined, view_of}
 use Rattle.cell_frames.specs.Owns.{Opens}
-use Rattle.cell_frames.specs.Settles.{IsOnTrail, SettlesFrame}
+use Rattle.cell_frames.specs.Settles.{SettlesFrame}
 use Rattle.cell_frames.specs.declared.owning.Reopened.{Reopened}
 use Rattle.cell_frames.specs.declared.owning.Reopened.TheVariants as reopenings
 use Rattle.cell_frames.specs.declared.settling.SettleRefusal.{SettleRefusal}
@@ -22,7 +22,7 @@ use Rattle.hub_store.specs.Changes.{KeepsAll, trail_in}
 use Rattle.hub_store.specs.Trail.{Settled, settling}
 use Rattle.hub_store.specs.declared.start.Start as starts
 use Rattle.log_items.specs.declared.items.Packet.{Packet}
-use Rattle.many_rules.specs.Rules.{Rules, IsFrom, pairs_of}
+use Rattle.many_rules.specs.Rules.{Rules, IsFrom}
 use Rattle.node_core.specs.Growing.{IsStamped, Grows, GrowsOn}
 use Rattle.node_core.specs.Running.{IsRunning}
 use Rattle.node_core.proofs.Steps.{kept_all, same_all}
@@ -52,6 +52,7 @@ module _ (rules : Rules) where
   -- between moments further apart
   wider : (first last earlier later : ℕ) → earlier ≤ first → last ≤ later → (one : Settled) → IsStamped rules first last one → IsStamped rules earlier later one
   wider first last earlier later low high one is = record {
+    few = is.few;
     from = λ k d inside. from_earlier first earlier low _ (is.from k d inside);
     by = λ k d inside. by_later (max (rules.begin one.partition).stamp last) (max (rules.begin one.partition).stamp later) (omega (arith, high)) _ (is.by k d inside);
   }
@@ -80,11 +81,15 @@ module _ (rules : Rules) where
   -- ---- one partition's frame
 
   -- what is settled of one partition, of entries that are so
-  settling_all : (first last p at : ℕ) (entries : List Entry) → All (λ e. All (IsFrom first) e.items) entries → All (λ e. All (IsBy (max (rules.begin p).stamp last)) e.items) entries → All (IsStamped rules first last) (settling p at entries)
-  settling_all first last p at [] from by = All-nil (IsStamped rules first last)
-  settling_all first last p at (e ∷ entries) from by =
-      All-cons (IsStamped rules first last) _ _ (record { from = All-head (λ (x : Entry). All (IsFrom first) x.items) e entries from; by = All-head (λ (x : Entry). All (IsBy (max (rules.begin p).stamp last)) x.items) e entries by })
-      (settling_all first last p at entries (All-tail (λ (x : Entry). All (IsFrom first) x.items) e entries from) (All-tail (λ (x : Entry). All (IsBy (max (rules.begin p).stamp last)) x.items) e entries by))
+  settling_all : (first last p at : ℕ) (entries : List Entry) → All (λ e. length e.items ≤ rules.most) entries → All (λ e. All (IsFrom first) e.items) entries → All (λ e. All (IsBy (max (rules.begin p).stamp last)) e.items) entries → All (IsStamped rules first last) (settling p at entries)
+  settling_all first last p at [] few from by = All-nil (IsStamped rules first last)
+  settling_all first last p at (e ∷ entries) few from by =
+      All-cons (IsStamped rules first last) _ _ (record {
+        few = All-head (λ (x : Entry). length x.items ≤ rules.most) e entries few;
+        from = All-head (λ (x : Entry). All (IsFrom first) x.items) e entries from;
+        by = All-head (λ (x : Entry). All (IsBy (max (rules.begin p).stamp last)) x.items) e entries by;
+      })
+      (settling_all first last p at entries (All-tail (λ (x : Entry). length x.items ≤ rules.most) e entries few) (All-tail (λ (x : Entry). All (IsFrom first) x.items) e entries from) (All-tail (λ (x : Entry). All (IsBy (max (rules.begin p).stamp last)) x.items) e entries by))
 
   module _ (serves : rules.serves ≡ true) (p : ℕ) (mode : Mode) (old new : StoreView) (c : CellView) (joined : Joined rules old p c) (low : old.latest ≤ new.latest) where
     on_trail : (at : ℕ) → new.trail ≡ old.trail ++ settling p at (take c.out c.entries) → Grows rules old.latest new.latest old.trail new.trail
@@ -97,7 +102,7 @@ module _ (rules : Rules) where
           in_order = low;
           more = settling p at (take c.out c.entries);
           is = trail;
-          stamped = settling_all old.latest new.latest p at (take c.out c.entries) (front_all (λ e. All (IsFrom old.latest) e.items) c.out c.entries fresh.held)
+          stamped = settling_all old.latest new.latest p at (take c.out c.entries) (front_all (λ e. length e.items ≤ rules.most) c.out c.entries (λ k d inside. (goes.ours.ours k d inside).few)) (front_all (λ e. All (IsFrom old.latest) e.items) c.out c.entries fresh.held)
               (front_all (λ e. All (IsBy (max (rules.begin p).stamp new.latest)) e.items) c.out c.entries
               (λ k d inside m item within. by_later (max (rules.begin p).stamp old.latest) (max (rules.begin p).stamp new.latest) (omega (arith, low)) _ (mine k d inside m item within)));
         }

@@ -8,8 +8,9 @@ use Rattle.hub_store.specs.Origin.{Origin}
 use Rattle.hub_store.specs.declared.start.Start as starts
 use Rattle.hub_store.specs.declared.store.Store.{Store}
 use Rattle.many_rules.specs.Rules.{Rules}
-use Rattle.node_core.specs.Halts.{IsInner, IsPast, RisesFor}
-use Rattle.node_core.specs.Running.{IsRunning, Keeps}
+use Rattle.node_core.specs.Halts.{IsInner, RisesFor}
+use Rattle.node_core.proofs.Frames.{short_cells}
+use Rattle.node_core.specs.Running.{HaveShortFrames, IsRunning, Keeps}
 use Rattle.node_core.specs.declared.halt.Halt.{Halt}
 use Rattle.node_core.specs.declared.halt.Halt.TheVariants as halts
 use Rattle.site_model.proofs.Faults.{risen_later}
@@ -45,19 +46,19 @@ module _ {V N : Type 0} {G : sites.Ghosts V} {H : starts.Ghosts N} where
 -- cells changed that stay joined to the store
 pub cells_run : {V L : Type 0} {G : sites.Ghosts V} {K : starts.Ghosts (gated_types.Gated L)} (o : Origin) (rules : Rules) (store : GatedStore V L G K) (old new : List CellView) → IsRunning o rules store old → length new ≡ length old
     → ((s : StoreView) → AllJoined rules s old → AllJoined rules s new) → IsRunning o rules store new
-cells_run o rules store old new r many joined = record { begun = r.begun; serves = r.serves; some = r.some; few = r.few; many = many ∙ r.many; kept = r.kept; still = r.still; whole = r.whole; joined = joined (view_of store) r.joined }
+cells_run o rules store old new r many joined = record { begun = r.begun; serves = r.serves; some = r.some; few = r.few; many = many ∙ r.many; short = short_cells rules (view_of store) old new many r.joined (joined (view_of store) r.joined) r.short; kept = r.kept; still = r.still; whole = r.whole; joined = joined (view_of store) r.joined }
 
 -- a call on frames left the store kept, and no device call failed
 pub runs_on : {V L : Type 0} {G : sites.Ghosts V} {K : starts.Ghosts (gated_types.Gated L)} (o : Origin) (rules : Rules) (old new : GatedStore V L G K) (cells later : List CellView) → IsRunning o rules old cells → KeepsAll old.logs new.logs → Keeps o rules new
-    → new.logs.halted ≡ false → length later ≡ length cells → AllJoined rules (view_of new) later → IsRunning o rules new later
-runs_on o rules old new cells later r keeps kept still many joined = record { begun = r.begun; serves = r.serves; some = r.some; few = r.few; many = many ∙ r.many; kept = kept; still = still; whole = keeps.whole ∙ r.whole; joined = joined }
+    → new.logs.halted ≡ false → length later ≡ length cells → HaveShortFrames later → AllJoined rules (view_of new) later → IsRunning o rules new later
+runs_on o rules old new cells later r keeps kept still many short joined = record { begun = r.begun; serves = r.serves; some = r.some; few = r.few; many = many ∙ r.many; short = short; kept = kept; still = still; whole = keeps.whole ∙ r.whole; joined = joined }
 
 -- logs and ledgers are as they were
 pub runs_same : {V L : Type 0} {G : sites.Ghosts V} {K : starts.Ghosts (gated_types.Gated L)} (o : Origin) (rules : Rules) (old new : GatedStore V L G K) (cells : List CellView) → IsRunning o rules old cells → Keeps o rules new → new.logs ≡ old.logs
     → new.ledgers ≡ old.ledgers → IsRunning o rules new cells
 runs_same {V} {L} {G} {K} o rules old new cells r kept logs ledgers =
     let joined : AllJoined rules (view_of (record old { ledgers = new.ledgers })) cells = subst (λ (l : _). AllJoined rules (view_of (record old { ledgers = l })) cells) (sym ledgers) r.joined in
-    runs_on o rules old new cells cells r (same_all old.logs new.logs logs) kept (ap (λ (s : _). s.halted) logs ∙ r.still) refl (subst (λ (s : _). AllJoined rules (view_of (record new { logs = s })) cells) (sym logs) joined)
+    runs_on o rules old new cells cells r (same_all old.logs new.logs logs) kept (ap (λ (s : _). s.halted) logs ∙ r.still) refl r.short (subst (λ (s : _). AllJoined rules (view_of (record new { logs = s })) cells) (sym logs) joined)
 
 -- ---- why a call halts
 
@@ -78,18 +79,10 @@ module _ {V N : Type 0} {G : sites.Ghosts V} {H : starts.Ghosts N} where
       let two = then.say_faults in
       rises_later (G.disk_faults a.site) (G.say_faults a.site) (G.disk_faults b.site) (G.say_faults b.site) (G.disk_faults c.site) (G.say_faults c.site) halt first.later then.later (omega (arith, one)) (omega (arith, two)) rises
 
-pub inner_rises : (disk say disk_then say_then : ℕ) (halt : Halt) → IsInner halt → RisesFor disk say disk_then say_then halt
-inner_rises disk say disk_then say_then halts.SiteFault inner = absurd inner
-inner_rises disk say disk_then say_then halts.SayFault inner = absurd inner
-inner_rises disk say disk_then say_then (halts.Full partition length) inner = absurd inner
-inner_rises disk say disk_then say_then (halts.Spent partition number) inner = tt
-inner_rises disk say disk_then say_then halts.ClockFault inner = absurd inner
-inner_rises disk say disk_then say_then halts.Memory inner = tt
-
-pub inner_past : {V L : Type 0} {G : sites.Ghosts V} {K : starts.Ghosts (gated_types.Gated L)} (rules : Rules) (store : GatedStore V L G K) (halt : Halt) → IsInner halt → IsPast rules store halt
-inner_past rules store halts.SiteFault inner = absurd inner
-inner_past rules store halts.SayFault inner = absurd inner
-inner_past rules store (halts.Full partition length) inner = absurd inner
-inner_past rules store (halts.Spent partition number) inner = inner
-inner_past rules store halts.ClockFault inner = absurd inner
-inner_past rules store halts.Memory inner = tt
+pub inner_rises : (rules : Rules) (old new : List CellView) (disk say disk_then say_then : ℕ) (halt : Halt) → IsInner rules old new halt → RisesFor disk say disk_then say_then halt
+inner_rises rules old new disk say disk_then say_then halts.SiteFault inner = absurd inner
+inner_rises rules old new disk say disk_then say_then halts.SayFault inner = absurd inner
+inner_rises rules old new disk say disk_then say_then (halts.Full partition length) inner = absurd inner
+inner_rises rules old new disk say disk_then say_then (halts.Spent partition number) inner = tt
+inner_rises rules old new disk say disk_then say_then halts.ClockFault inner = absurd inner
+inner_rises rules old new disk say disk_then say_then halts.Memory inner = tt

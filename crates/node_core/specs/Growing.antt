@@ -1,5 +1,5 @@
 -- What was settled stays so, and what comes behind it is of the moments at which it came.
-use Rattle.std.specs.Prelude.{◌≡◌, ◌≤◌, ℕ, max, List, ◌++◌}
+use Rattle.std.specs.Prelude.{◌≡◌, ◌≤◌, ℕ, max, List, ◌++◌, length}
 use Rattle.std.specs.List.{All}
 use Rattle.gated_store.specs.declared.local.Gated as gated_types
 use Rattle.gated_store.specs.declared.store.GatedStore.{GatedStore}
@@ -10,9 +10,11 @@ use Rattle.many_rules.specs.Rules.{Rules, IsFrom}
 use Rattle.run_rules.specs.Rules.{IsBy}
 use Rattle.site_model.specs.declared.site.Site as sites
 
--- None of the items is of an earlier stamp than the first of these moments, or of a later one than both the last and what its partition
--- began with. Where the clock isn't behind the log, and both moments are one, each delivery and timer is at just that moment.
+-- It has no more items than an entry may have, and none of them is of an earlier stamp than the first of these moments, or of a later one than
+-- both the last and what its partition began with. Where the clock isn't behind the log, and both moments are one, each delivery and timer is
+-- at just that moment.
 pub record IsStamped (rules : Rules) (first last : ℕ) (one : Settled) : Type 0 where
+  pub few : length one.entry.items ≤ rules.most
   pub from : All (IsFrom first) one.entry.items
   pub by : All (IsBy (max (rules.begin one.partition).stamp last)) one.entry.items
 

@@ -1,8 +1,8 @@
 //! Frames of all partitions are committed together: all that may go are written, then made safe by one call, then their gates are opened,
 //! which is made safe by one call again, and each is settled.
 
-ghost use Rattle.std.specs.Prelude.{◌<◌, IfErr, OnOk};
-ghost use Rattle.hub_store.specs.Changes.{KeepsAll};
+ghost use Rattle.std.specs.Prelude.{◌≡◌, ◌≤◌, ◌<◌, ◌+◌, ◌*◌, length, IfErr, OnOk};
+ghost use Rattle.hub_store.specs.Changes.{KeepsAll, trail_in};
 ghost use Rattle.node_core.specs.Growing.{GrowsOn};
 ghost use Rattle.node_core.specs.Halts.{IsPast, IsSilent, RisesFor};
 ghost use Rattle.node_core.specs.Running.{IsRunning, Keeps};
@@ -34,13 +34,13 @@ fn judge_part<V: Site, M: Picked>(
     requires running { IsRunning M.origin M.rules store.old cells.old.items }
     requires place { part < M.rules.count }
     ensures keeps { KeepsAll store.old.logs store.new.logs }
-    ensures grows { GrowsOn M.rules store.old store.new }
+    ensures trail { trail_in store.new.logs ≡ trail_in store.old.logs }
     ensures kept { Keeps M.origin M.rules store.new }
     ensures running { OnOk result (IsRunning M.origin M.rules store.new cells.new.items) }
     ensures rises { IfErr result (RisesFor (V.disk_faults store.old.logs.site)
         (V.say_faults store.old.logs.site) (V.disk_faults store.new.logs.site)
         (V.say_faults store.new.logs.site)) }
-    ensures past { IfErr result (IsPast M.rules store.new) }
+    ensures past { IfErr result (IsPast M.rules store.new cells.new.items) }
     ensures silent { IfErr result IsSilent }
 {
     if crew.has_stopped(part, store.turns()) {
@@ -67,13 +67,13 @@ pub fn judge_all<V: Site, M: Picked>(
 ) -> Result<bool, Halt>
     requires running { IsRunning M.origin M.rules store.old cells.old.items }
     ensures keeps { KeepsAll store.old.logs store.new.logs }
-    ensures grows { GrowsOn M.rules store.old store.new }
+    ensures trail { trail_in store.new.logs ≡ trail_in store.old.logs }
     ensures kept { Keeps M.origin M.rules store.new }
     ensures running { OnOk result (IsRunning M.origin M.rules store.new cells.new.items) }
     ensures rises { IfErr result (RisesFor (V.disk_faults store.old.logs.site)
         (V.say_faults store.old.logs.site) (V.disk_faults store.new.logs.site)
         (V.say_faults store.new.logs.site)) }
-    ensures past { IfErr result (IsPast M.rules store.new) }
+    ensures past { IfErr result (IsPast M.rules store.new cells.new.items) }
     ensures silent { IfErr result IsSilent }
 {
     let count = cells.len() as u32;
@@ -98,13 +98,13 @@ fn write_part<V: Site, M: Picked>(
     requires running { IsRunning M.origin M.rules store.old cells.old.items }
     requires place { part < M.rules.count }
     ensures keeps { KeepsAll store.old.logs store.new.logs }
-    ensures grows { GrowsOn M.rules store.old store.new }
+    ensures trail { trail_in store.new.logs ≡ trail_in store.old.logs }
     ensures kept { Keeps M.origin M.rules store.new }
     ensures running { OnOk result (IsRunning M.origin M.rules store.new cells.new.items) }
     ensures rises { IfErr result (RisesFor (V.disk_faults store.old.logs.site)
         (V.say_faults store.old.logs.site) (V.disk_faults store.new.logs.site)
         (V.say_faults store.new.logs.site)) }
-    ensures past { IfErr result (IsPast M.rules store.new) }
+    ensures past { IfErr result (IsPast M.rules store.new cells.new.items) }
     ensures silent { IfErr result IsSilent }
 {
     if crew.has_stopped(part, store.turns()) {
@@ -128,13 +128,13 @@ fn write_all<V: Site, M: Picked>(
 ) -> Result<bool, Halt>
     requires running { IsRunning M.origin M.rules store.old cells.old.items }
     ensures keeps { KeepsAll store.old.logs store.new.logs }
-    ensures grows { GrowsOn M.rules store.old store.new }
+    ensures trail { trail_in store.new.logs ≡ trail_in store.old.logs }
     ensures kept { Keeps M.origin M.rules store.new }
     ensures running { OnOk result (IsRunning M.origin M.rules store.new cells.new.items) }
     ensures rises { IfErr result (RisesFor (V.disk_faults store.old.logs.site)
         (V.say_faults store.old.logs.site) (V.disk_faults store.new.logs.site)
         (V.say_faults store.new.logs.site)) }
-    ensures past { IfErr result (IsPast M.rules store.new) }
+    ensures past { IfErr result (IsPast M.rules store.new cells.new.items) }
     ensures silent { IfErr result IsSilent }
 {
     let count = cells.len() as u32;
@@ -155,13 +155,13 @@ fn sync_all<V: Site, M: Picked>(
 ) -> Result<(), Halt>
     requires running { IsRunning M.origin M.rules store.old _cells.now }
     ensures keeps { KeepsAll store.old.logs store.new.logs }
-    ensures grows { GrowsOn M.rules store.old store.new }
+    ensures trail { trail_in store.new.logs ≡ trail_in store.old.logs }
     ensures kept { Keeps M.origin M.rules store.new }
     ensures running { OnOk result (IsRunning M.origin M.rules store.new _cells.now) }
     ensures rises { IfErr result (RisesFor (V.disk_faults store.old.logs.site)
         (V.say_faults store.old.logs.site) (V.disk_faults store.new.logs.site)
         (V.say_faults store.new.logs.site)) }
-    ensures past { IfErr result (IsPast M.rules store.new) }
+    ensures past { IfErr result (IsPast M.rules store.new _cells.now) }
     ensures silent { IfErr result IsSilent }
 {
     match sync_frames(alloc, store) {
@@ -183,13 +183,13 @@ fn open_part<V: Site, M: Picked>(
     requires running { IsRunning M.origin M.rules store.old _cells.now }
     requires place { part < M.rules.count }
     ensures keeps { KeepsAll store.old.logs store.new.logs }
-    ensures grows { GrowsOn M.rules store.old store.new }
+    ensures trail { trail_in store.new.logs ≡ trail_in store.old.logs }
     ensures kept { Keeps M.origin M.rules store.new }
     ensures running { OnOk result (IsRunning M.origin M.rules store.new _cells.now) }
     ensures rises { IfErr result (RisesFor (V.disk_faults store.old.logs.site)
         (V.say_faults store.old.logs.site) (V.disk_faults store.new.logs.site)
         (V.say_faults store.new.logs.site)) }
-    ensures past { IfErr result (IsPast M.rules store.new) }
+    ensures past { IfErr result (IsPast M.rules store.new _cells.now) }
     ensures silent { IfErr result IsSilent }
 {
     if crew.has_stopped(part, store.turns()) {
@@ -211,13 +211,13 @@ fn open_all<V: Site, M: Picked>(
 ) -> Result<(), Halt>
     requires running { IsRunning M.origin M.rules store.old cells.now }
     ensures keeps { KeepsAll store.old.logs store.new.logs }
-    ensures grows { GrowsOn M.rules store.old store.new }
+    ensures trail { trail_in store.new.logs ≡ trail_in store.old.logs }
     ensures kept { Keeps M.origin M.rules store.new }
     ensures running { OnOk result (IsRunning M.origin M.rules store.new cells.now) }
     ensures rises { IfErr result (RisesFor (V.disk_faults store.old.logs.site)
         (V.say_faults store.old.logs.site) (V.disk_faults store.new.logs.site)
         (V.say_faults store.new.logs.site)) }
-    ensures past { IfErr result (IsPast M.rules store.new) }
+    ensures past { IfErr result (IsPast M.rules store.new cells.now) }
     ensures silent { IfErr result IsSilent }
 {
     let count = cells.len() as u32;
@@ -242,12 +242,13 @@ fn settle_part<V: Site, M: Picked>(
     requires place { part < M.rules.count }
     ensures keeps { KeepsAll store.old.logs store.new.logs }
     ensures grows { GrowsOn M.rules store.old store.new }
+    ensures few { length (trail_in store.new.logs) ≤ length (trail_in store.old.logs) + 64 }
     ensures kept { Keeps M.origin M.rules store.new }
     ensures running { OnOk result (IsRunning M.origin M.rules store.new cells.new.items) }
     ensures rises { IfErr result (RisesFor (V.disk_faults store.old.logs.site)
         (V.say_faults store.old.logs.site) (V.disk_faults store.new.logs.site)
         (V.say_faults store.new.logs.site)) }
-    ensures past { IfErr result (IsPast M.rules store.new) }
+    ensures past { IfErr result (IsPast M.rules store.new cells.new.items) }
     ensures silent { IfErr result IsSilent }
 {
     if crew.has_stopped(part, store.turns()) {
@@ -276,12 +277,14 @@ fn settle_all<V: Site, M: Picked>(
     requires running { IsRunning M.origin M.rules store.old cells.old.items }
     ensures keeps { KeepsAll store.old.logs store.new.logs }
     ensures grows { GrowsOn M.rules store.old store.new }
+    ensures few { length (trail_in store.new.logs)
+        ≤ length (trail_in store.old.logs) + 64 * M.rules.count }
     ensures kept { Keeps M.origin M.rules store.new }
     ensures running { OnOk result (IsRunning M.origin M.rules store.new cells.new.items) }
     ensures rises { IfErr result (RisesFor (V.disk_faults store.old.logs.site)
         (V.say_faults store.old.logs.site) (V.disk_faults store.new.logs.site)
         (V.say_faults store.new.logs.site)) }
-    ensures past { IfErr result (IsPast M.rules store.new) }
+    ensures past { IfErr result (IsPast M.rules store.new cells.new.items) }
     ensures silent { IfErr result IsSilent }
 {
     let count = cells.len() as u32;
@@ -312,13 +315,13 @@ fn write_now<V: Site, M: Picked>(
 ) -> Result<bool, Halt>
     requires running { IsRunning M.origin M.rules store.old cells.old.items }
     ensures keeps { KeepsAll store.old.logs store.new.logs }
-    ensures grows { GrowsOn M.rules store.old store.new }
+    ensures trail { trail_in store.new.logs ≡ trail_in store.old.logs }
     ensures kept { Keeps M.origin M.rules store.new }
     ensures running { OnOk result (IsRunning M.origin M.rules store.new cells.new.items) }
     ensures rises { IfErr result (RisesFor (V.disk_faults store.old.logs.site)
         (V.say_faults store.old.logs.site) (V.disk_faults store.new.logs.site)
         (V.say_faults store.new.logs.site)) }
-    ensures past { IfErr result (IsPast M.rules store.new) }
+    ensures past { IfErr result (IsPast M.rules store.new cells.new.items) }
     ensures silent { IfErr result IsSilent }
 {
     let count = cells.len() as u32;
@@ -330,7 +333,8 @@ fn write_now<V: Site, M: Picked>(
     wrote
 }
 
-/// The frames of all partitions that may go are committed together, in two waits for the disk. Where none may nothing is done.
+/// The frames of all partitions that may go are committed together, in two waits for the disk: at most one of each, of at most 64 entries. Where
+/// none may nothing is done.
 pub fn commit_wave<V: Site, M: Picked>(
     alloc: Global,
     store: &mut GatedStore<V, ByRules<M>>,
@@ -342,12 +346,14 @@ pub fn commit_wave<V: Site, M: Picked>(
     requires running { IsRunning M.origin M.rules store.old cells.old.items }
     ensures keeps { KeepsAll store.old.logs store.new.logs }
     ensures grows { GrowsOn M.rules store.old store.new }
+    ensures few { length (trail_in store.new.logs)
+        ≤ length (trail_in store.old.logs) + 64 * M.rules.count }
     ensures kept { Keeps M.origin M.rules store.new }
     ensures running { OnOk result (IsRunning M.origin M.rules store.new cells.new.items) }
     ensures rises { IfErr result (RisesFor (V.disk_faults store.old.logs.site)
         (V.say_faults store.old.logs.site) (V.disk_faults store.new.logs.site)
         (V.say_faults store.new.logs.site)) }
-    ensures past { IfErr result (IsPast M.rules store.new) }
+    ensures past { IfErr result (IsPast M.rules store.new cells.new.items) }
     ensures silent { IfErr result IsSilent }
 {
     if !write_now(alloc, store, cells, crew)? {

@@ -12,6 +12,7 @@ use Rattle.hub_store.specs.Origin.{Origin}
 use Rattle.hub_store.specs.Trail.{Said}
 use Rattle.hub_store.specs.declared.start.Start as starts
 use Rattle.many_rules.specs.Rules.{Rules}
+use Rattle.node_core.proofs.Frames.{short_cells}
 use Rattle.node_core.proofs.Growing.{grows_on_not, grows_on_then, grows_same}
 use Rattle.node_core.proofs.Steps.{cells_run}
 use Rattle.node_core.specs.Growing.{GrowsOn}
@@ -72,7 +73,7 @@ module _ {V L : Type 0} {G : sites.Ghosts V} {K : starts.Ghosts (gated_types.Gat
 
   pub serves_on : (o : Origin) (rules : Rules) (store : GatedStore V L G K) (old new : List CellView) (queues : List Queue) → IsServing o rules store old queues → length new ≡ length old → AllJoined rules (view_of store) new → IsServing o rules store new queues
   serves_on o rules store old new queues serving many joined = record {
-    running = let r = serving.running in record { begun = r.begun; serves = r.serves; some = r.some; few = r.few; many = many ∙ r.many; kept = r.kept; still = r.still; whole = r.whole; joined = joined };
+    running = let r = serving.running in record { begun = r.begun; serves = r.serves; some = r.some; few = r.few; many = many ∙ r.many; short = short_cells rules (view_of store) old new many r.joined joined r.short; kept = r.kept; still = r.still; whole = r.whole; joined = joined };
     said = serving.said;
   }
 
@@ -88,7 +89,7 @@ module _ {V L : Type 0} {G : sites.Ghosts V} {K : starts.Ghosts (gated_types.Gat
       → HasSaid rules.requests (told_in new.logs) later → IsServing o rules new cells later
   said_serve o rules old new cells queues later serving kept still cut joined said =
       let r = serving.running in
-      record { running = record { begun = r.begun; serves = r.serves; some = r.some; few = r.few; many = r.many; kept = kept; still = still; whole = cut ∙ r.whole; joined = joined }; said = said }
+      record { running = record { begun = r.begun; serves = r.serves; some = r.some; few = r.few; many = r.many; short = r.short; kept = kept; still = still; whole = cut ∙ r.whole; joined = joined }; said = said }
 
   -- nothing was said
   pub unsaid_serve : (o : Origin) (rules : Rules) (old new : GatedStore V L G K) (cells : List CellView) (queues : List Queue) → IsServing o rules old cells queues → Keeps o rules new → new.logs.halted ≡ false → new.logs.cut ≡ old.logs.cut → AllJoined rules (view_of new) cells

@@ -1,16 +1,14 @@
 //! What clients are told, and what they ask.
 
-ghost use Rattle.std.specs.Prelude.{◌≡◌, ◌≢◌, ◌≤◌, ◌<◌, ◌+◌, false, drop, length, Err, IfErr, IfOk, OnOk};
+ghost use Rattle.std.specs.Prelude.{◌≡◌, ◌≢◌, ◌≤◌, ◌<◌, false, length, Err, IfErr, OnOk};
 ghost use Rattle.cell_frames.specs.Joined.{StoreView};
 ghost use Rattle.hub_store.specs.Changes.{trail_in};
-ghost use Rattle.round_steps.specs.Labels.{settled_labels};
 ghost use Rattle.round_steps.specs.Serving.{GoesOn, HasSaid, IsServing};
 ghost use Rattle.node_core.specs.Halts.{IsPast, RisesFor};
 ghost use Rattle.node_core.specs.Running.{Keeps};
 ghost use Rattle.world_steps.specs.Cells.{AllJoined};
 
-use crate::course::Seen;
-use crate::labels::reached_since;
+use crate::course::Course;
 use cell_frames::Seat;
 use client_port::Port;
 use dura_value::{Name, home};
@@ -21,6 +19,7 @@ use part_rows::copy_message;
 use site_model::Site;
 use spec_cell::{Cell, Offered};
 use std::alloc::{AllocError, Global};
+use std::mem;
 use world_steps::{offer_at, say_answer};
 
 /// More requests than a client has.
@@ -42,7 +41,7 @@ fn tell_next<V: Site, M: Picked>(
     ensures rises { IfErr result (RisesFor (V.disk_faults store.old.logs.site)
         (V.say_faults store.old.logs.site) (V.disk_faults store.new.logs.site)
         (V.say_faults store.new.logs.site)) }
-    ensures past { IfErr result (IsPast M.rules store.new) }
+    ensures past { IfErr result (IsPast M.rules store.new cells.now.items) }
     ensures clock { result ≢ Err Halt.ClockFault }
     ensures latest { store.new.logs.latest ≡ store.old.logs.latest }
     ensures trail { trail_in store.new.logs ≡ trail_in store.old.logs }
@@ -78,7 +77,7 @@ fn tell<V: Site, M: Picked>(
     ensures rises { IfErr result (RisesFor (V.disk_faults store.old.logs.site)
         (V.say_faults store.old.logs.site) (V.disk_faults store.new.logs.site)
         (V.say_faults store.new.logs.site)) }
-    ensures past { IfErr result (IsPast M.rules store.new) }
+    ensures past { IfErr result (IsPast M.rules store.new cells.now.items) }
     ensures clock { result ≢ Err Halt.ClockFault }
     ensures latest { store.new.logs.latest ≡ store.old.logs.latest }
     ensures trail { trail_in store.new.logs ≡ trail_in store.old.logs }
@@ -137,7 +136,7 @@ fn serve_client<V: Site, M: Picked>(
     ensures rises { IfErr result (RisesFor (V.disk_faults store.old.logs.site)
         (V.say_faults store.old.logs.site) (V.disk_faults store.new.logs.site)
         (V.say_faults store.new.logs.site)) }
-    ensures past { IfErr result (IsPast M.rules store.new) }
+    ensures past { IfErr result (IsPast M.rules store.new cells.new.items) }
     ensures clock { result ≢ Err Halt.ClockFault }
     ensures latest { store.new.logs.latest ≡ store.old.logs.latest }
     ensures trail { trail_in store.new.logs ≡ trail_in store.old.logs }
@@ -165,7 +164,7 @@ pub fn serve_all<V: Site, M: Picked>(
     ensures rises { IfErr result (RisesFor (V.disk_faults store.old.logs.site)
         (V.say_faults store.old.logs.site) (V.disk_faults store.new.logs.site)
         (V.say_faults store.new.logs.site)) }
-    ensures past { IfErr result (IsPast M.rules store.new) }
+    ensures past { IfErr result (IsPast M.rules store.new cells.new.items) }
     ensures clock { result ≢ Err Halt.ClockFault }
     ensures latest { store.new.logs.latest ≡ store.old.logs.latest }
     ensures trail { trail_in store.new.logs ≡ trail_in store.old.logs }
@@ -176,43 +175,29 @@ pub fn serve_all<V: Site, M: Picked>(
     Ok(())
 }
 
-/// The clients that something reached since so many entries are served. It says how many labels were settled since, and all entries are seen.
+/// The clients that something reached since they were served last are.
 pub fn serve_reached<V: Site, M: Picked>(
     alloc: Global,
     store: &mut GatedStore<V, ByRules<M>>,
     cells: &mut Vec<Cell<Seat<M>>>,
-    port: &mut Port,
-    seen: &mut Seen,
-) -> Result<u64, Halt>
-    requires serving { IsServing M.origin M.rules store.old cells.old.items port.old }
+    course: &mut Course,
+) -> Result<(), Halt>
+    requires serving { IsServing M.origin M.rules store.old cells.old.items course.old.port }
     ensures goes { GoesOn M.rules store.old store.new }
     ensures kept { Keeps M.origin M.rules store.new }
     ensures whole { result ≢ Err Halt.SayFault → store.new.logs.cut ≡ false }
-    ensures serving { OnOk result (IsServing M.origin M.rules store.new cells.new.items port.new) }
+    ensures serving { OnOk result (IsServing M.origin M.rules store.new cells.new.items course.new.port) }
     ensures rises { IfErr result (RisesFor (V.disk_faults store.old.logs.site)
         (V.say_faults store.old.logs.site) (V.disk_faults store.new.logs.site)
         (V.say_faults store.new.logs.site)) }
-    ensures past { IfErr result (IsPast M.rules store.new) }
+    ensures past { IfErr result (IsPast M.rules store.new cells.new.items) }
     ensures clock { result ≢ Err Halt.ClockFault }
     ensures latest { store.new.logs.latest ≡ store.old.logs.latest }
     ensures trail { trail_in store.new.logs ≡ trail_in store.old.logs }
-    ensures labels { IfOk result (λ n. n ≡ settled_labels
-        (drop seen.old.entries (trail_in store.old.logs))) }
-    ensures seen { OnOk result (seen.new.entries ≡ length (trail_in store.old.logs)) }
-    ensures adds { IfOk result (λ n. seen.new.labels ≡ seen.old.labels + n) }
+    ensures seen { course.new.seen ≡ course.old.seen }
 {
-    let Ok((reached, labels, now)) = reached_since(alloc, store, seen.entries) else {
-        return Err(Halt::Memory);
-    };
-    let Some(all) = seen.labels.checked_add(labels) else {
-        return Err(Halt::Memory);
-    };
-    seen.entries = now;
-    seen.labels = all;
-    let served = serve_all(alloc, store, cells, port, &reached);
+    let reached = mem::replace(&mut course.reached, Vec::new(alloc));
+    let served = serve_all(alloc, store, cells, &mut course.port, &reached);
     drop(reached);
-    match served {
-        Ok(()) => Ok(labels),
-        Err(halt) => Err(halt),
-    }
+    served
 }

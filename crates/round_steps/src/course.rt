@@ -4,6 +4,7 @@ ghost use Rattle.std.specs.Prelude.{◌≡◌};
 
 use cell_steps::Mode;
 use client_port::Port;
+use dura_value::Name;
 use node_core::Crew;
 use part_transport::Transport;
 
@@ -42,6 +43,8 @@ pub struct Course {
     pub runs: Vec<u64>,
     /// How much of the trail was looked at.
     pub seen: Seen,
+    /// The clients that something in it reached, who weren't served since.
+    pub reached: Vec<Name>,
     /// Whether packets may be lacking somewhere.
     pub lacking: bool,
     /// Whether packets are disturbed on their way.
@@ -49,6 +52,16 @@ pub struct Course {
 }
 
 impl Course {
+    /// Where there wasn't room for all packets, some may be lacking.
+    pub(crate) fn note_room(&mut self, fits: bool)
+        ensures port { self.new.port ≡ self.old.port }
+        ensures seen { self.new.seen ≡ self.old.seen }
+    {
+        if !fits {
+            self.lacking = true;
+        }
+    }
+
     /// Lets go of all but what clients may send next.
     pub fn into_port(self) -> Port
         ensures { result ≡ self.port }
@@ -59,12 +72,14 @@ impl Course {
             port,
             runs,
             seen: _,
+            reached,
             lacking: _,
             disturbed: _,
         } = self;
         drop(transport);
         drop(crew);
         drop(runs);
+        drop(reached);
         port
     }
 }

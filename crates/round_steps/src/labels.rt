@@ -1,6 +1,6 @@
 //! What was settled: how many labels, and which clients they reached.
 
-ghost use Rattle.std.specs.Prelude.{◌≡◌, is_some, drop, length, if◌then◌else◌, IfOk};
+ghost use Rattle.std.specs.Prelude.{◌≡◌, ◌+◌, is_some, drop, length, if◌then◌else◌, IfErr, IfOk, OnOk};
 ghost use Rattle.dura_model.specs.Entries.{labels_of};
 ghost use Rattle.dura_model.specs.Partition.{label_in};
 ghost use Rattle.hub_store.specs.Changes.{trail_in};
@@ -8,14 +8,16 @@ ghost use Rattle.hub_store.specs.Plain.{trail_of};
 ghost use Rattle.log_items.specs.Plain.{item_of, items_of};
 ghost use Rattle.round_steps.specs.Labels.{settled_labels};
 
+use crate::course::{Course, Seen};
 use dura_value::{Id, Name};
 use flow_messages::copy_name;
 use gated_store::GatedStore;
 use hub_store::Settled;
 use log_items::Item;
 use many_rules::{ByRules, Picked};
+use node_core::Halt;
 use site_model::Site;
-use std::alloc::{AllocError, Global};
+use std::alloc::AllocError;
 
 /// Whether an item is a label.
 fn is_label(item: &Item) -> bool
@@ -76,29 +78,49 @@ fn note_reached(items: &[Item], reached: &mut Vec<Name>) -> Result<(), AllocErro
     Ok(())
 }
 
-/// The clients that these entries reached.
-fn reached_by(alloc: Global, entries: &[Settled]) -> Result<Vec<Name>, AllocError> {
-    let mut reached = Vec::new(alloc);
+/// The clients that these entries reached come behind others.
+fn note_all_reached(entries: &[Settled], reached: &mut Vec<Name>) -> Result<(), AllocError> {
     'entries: for settled in entries {
-        note_reached(settled.items.as_slice(), &mut reached)?;
+        note_reached(settled.items.as_slice(), reached)?;
     }
-    Ok(reached)
+    Ok(())
 }
 
-/// The clients that something reached since so many entries, how many labels were settled since, and how many entries there are now.
-pub(crate) fn reached_since<V: Site, M: Picked>(
-    alloc: Global,
+/// How many labels were settled since so many entries.
+fn labels_since(trail: &[Settled], seen: usize) -> Result<u64, AllocError>
+    ensures { IfOk result (λ n. n ≡ settled_labels (drop seen (trail_of trail.now))) }
+{
+    let from = seen.min(trail.len());
+    let labels = labels_of_all(&trail[from..])?;
+    Ok(labels)
+}
+
+/// All that was settled since is looked at: its labels are counted, and the clients that it reached are noted.
+pub(crate) fn look<V: Site, M: Picked>(
     store: &GatedStore<V, ByRules<M>>,
-    seen: usize,
-) -> Result<(Vec<Name>, u64, usize), AllocError>
-    ensures labels { IfOk result (λ all. all.1
-        ≡ settled_labels (drop seen (trail_in store.now.logs))) }
-    ensures many { IfOk result (λ all. all.2 ≡ length (trail_in store.now.logs)) }
+    course: &mut Course,
+) -> Result<(), Halt>
+    ensures port { course.new.port ≡ course.old.port }
+    ensures entries { OnOk result (course.new.seen.entries ≡ length (trail_in store.now.logs)) }
+    ensures labels { OnOk result (course.new.seen.labels ≡ course.old.seen.labels
+        + settled_labels (drop course.old.seen.entries (trail_in store.now.logs))) }
+    ensures memory { IfErr result (λ halt. halt ≡ Halt.Memory) }
 {
     let trail = store.settled();
-    let from = seen.min(trail.len());
-    let fresh = &trail[from..];
-    let labels = labels_of_all(fresh)?;
-    let reached = reached_by(alloc, fresh)?;
-    Ok((reached, labels, trail.len()))
+    let seen = course.seen;
+    let Ok(more) = labels_since(trail, seen.entries) else {
+        return Err(Halt::Memory);
+    };
+    let Some(labels) = seen.labels.checked_add(more) else {
+        return Err(Halt::Memory);
+    };
+    let from = seen.entries.min(trail.len());
+    if note_all_reached(&trail[from..], &mut course.reached).is_err() {
+        return Err(Halt::Memory);
+    }
+    course.seen = Seen {
+        entries: trail.len(),
+        labels,
+    };
+    Ok(())
 }

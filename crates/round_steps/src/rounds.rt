@@ -2,12 +2,15 @@
 
 ghost use Rattle.std.specs.Prelude.{◌≡◌, ◌≢◌, ◌≤◌, ◌<◌, false, length, Err, IfErr, OnOk};
 ghost use Rattle.cell_frames.specs.Joined.{StoreView};
+ghost use Rattle.hub_store.specs.Changes.{trail_in};
+ghost use Rattle.round_steps.specs.Labels.{AreFew, IsCounted};
 ghost use Rattle.round_steps.specs.Serving.{GoesOn, IsServing};
 ghost use Rattle.node_core.specs.Halts.{IsInner, IsPast, RisesFor};
 ghost use Rattle.node_core.specs.Running.{Keeps};
 ghost use Rattle.world_steps.specs.Cells.{AllJoined};
 
 use crate::course::{Course, Pace};
+use crate::labels::look;
 use crate::tasks::run_all_tasks;
 use activity_table::Activities;
 use cell_frames::Seat;
@@ -44,7 +47,7 @@ fn turn_part<M: Picked, R: Reactions>(
     ensures many { length cells.new.items ≡ length cells.old.items }
     ensures joined { (s : StoreView) → AllJoined M.rules s cells.old.items
         → OnOk result (AllJoined M.rules s cells.new.items) }
-    ensures inner { IfErr result IsInner }
+    ensures inner { IfErr result (IsInner M.rules cells.old.items cells.new.items) }
 {
     match step_turn(
         alloc, reactions, cells, transport, part, pace.batch, pace.mode,
@@ -77,7 +80,7 @@ fn step_part<M: Picked, R: Reactions>(
     ensures many { length cells.new.items ≡ length cells.old.items }
     ensures joined { (s : StoreView) → AllJoined M.rules s cells.old.items
         → OnOk result (AllJoined M.rules s cells.new.items) }
-    ensures inner { IfErr result IsInner }
+    ensures inner { IfErr result (IsInner M.rules cells.old.items cells.new.items) }
 {
     let mut turned = false;
     let mut all = true;
@@ -110,7 +113,7 @@ fn step_one<M: Picked, R: Reactions>(
     ensures many { length cells.new.items ≡ length cells.old.items }
     ensures joined { (s : StoreView) → AllJoined M.rules s cells.old.items
         → OnOk result (AllJoined M.rules s cells.new.items) }
-    ensures inner { IfErr result IsInner }
+    ensures inner { IfErr result (IsInner M.rules cells.old.items cells.new.items) }
     ensures port { course.new.port ≡ course.old.port }
     ensures seen { course.new.seen ≡ course.old.seen }
 {
@@ -150,7 +153,7 @@ pub fn step_all<M: Picked, R: Reactions>(
     ensures many { length cells.new.items ≡ length cells.old.items }
     ensures joined { (s : StoreView) → AllJoined M.rules s cells.old.items
         → OnOk result (AllJoined M.rules s cells.new.items) }
-    ensures inner { IfErr result IsInner }
+    ensures inner { IfErr result (IsInner M.rules cells.old.items cells.new.items) }
     ensures port { course.new.port ≡ course.old.port }
     ensures seen { course.new.seen ≡ course.old.seen }
 {
@@ -164,15 +167,16 @@ pub fn step_all<M: Picked, R: Reactions>(
     Ok(turned)
 }
 
-/// A wave of frames is committed. It says whether a frame was written.
+/// A wave of frames is committed, where fewer labels were settled than are enough. It says whether a frame was written.
 fn commit_once<V: Site, M: Picked>(
     alloc: Global,
     store: &mut GatedStore<V, ByRules<M>>,
     cells: &mut Vec<Cell<Seat<M>>>,
     course: &mut Course,
-    mode: Mode,
+    pace: &Pace,
 ) -> Result<bool, Halt>
     requires serving { IsServing M.origin M.rules store.old cells.old.items course.old.port }
+    requires counted { IsCounted course.old.seen (trail_in store.old.logs) }
     ensures goes { GoesOn M.rules store.old store.new }
     ensures kept { Keeps M.origin M.rules store.new }
     ensures whole { result ≢ Err Halt.SayFault → store.new.logs.cut ≡ false }
@@ -180,34 +184,39 @@ fn commit_once<V: Site, M: Picked>(
     ensures rises { IfErr result (RisesFor (V.disk_faults store.old.logs.site)
         (V.say_faults store.old.logs.site) (V.disk_faults store.new.logs.site)
         (V.say_faults store.new.logs.site)) }
-    ensures past { IfErr result (IsPast M.rules store.new) }
+    ensures past { IfErr result (IsPast M.rules store.new cells.new.items) }
     ensures clock { result ≢ Err Halt.ClockFault }
     ensures latest { store.new.logs.latest ≡ store.old.logs.latest }
-    ensures seen { course.new.seen ≡ course.old.seen }
+    ensures fewer { AreFew M.rules pace.now.steps (trail_in store.old.logs)
+        → AreFew M.rules pace.now.steps (trail_in store.new.logs) }
+    ensures counted { OnOk result (IsCounted course.new.seen (trail_in store.new.logs)) }
 {
+    if pace.steps <= course.seen.labels {
+        return Ok(false);
+    }
     let wave = commit_wave(
         alloc,
         store,
         cells,
         &mut course.transport,
         &course.crew,
-        mode,
+        pace.mode,
     )?;
-    if !wave.fits {
-        course.lacking = true;
-    }
+    course.note_room(wave.fits);
+    look(store, course)?;
     Ok(wave.wrote)
 }
 
-/// Waves of frames are committed until no frame may go.
+/// Waves of frames are committed until no frame may go, or as many labels were settled as are enough.
 pub fn commit_all<V: Site, M: Picked>(
     alloc: Global,
     store: &mut GatedStore<V, ByRules<M>>,
     cells: &mut Vec<Cell<Seat<M>>>,
     course: &mut Course,
-    mode: Mode,
+    pace: &Pace,
 ) -> Result<(), Halt>
     requires serving { IsServing M.origin M.rules store.old cells.old.items course.old.port }
+    requires counted { IsCounted course.old.seen (trail_in store.old.logs) }
     ensures goes { GoesOn M.rules store.old store.new }
     ensures kept { Keeps M.origin M.rules store.new }
     ensures whole { result ≢ Err Halt.SayFault → store.new.logs.cut ≡ false }
@@ -215,13 +224,15 @@ pub fn commit_all<V: Site, M: Picked>(
     ensures rises { IfErr result (RisesFor (V.disk_faults store.old.logs.site)
         (V.say_faults store.old.logs.site) (V.disk_faults store.new.logs.site)
         (V.say_faults store.new.logs.site)) }
-    ensures past { IfErr result (IsPast M.rules store.new) }
+    ensures past { IfErr result (IsPast M.rules store.new cells.new.items) }
     ensures clock { result ≢ Err Halt.ClockFault }
     ensures latest { store.new.logs.latest ≡ store.old.logs.latest }
-    ensures seen { course.new.seen ≡ course.old.seen }
+    ensures fewer { AreFew M.rules pace.now.steps (trail_in store.old.logs)
+        → AreFew M.rules pace.now.steps (trail_in store.new.logs) }
+    ensures counted { OnOk result (IsCounted course.new.seen (trail_in store.new.logs)) }
 {
     'waves: for _ in 0..MOST_WAVES {
-        if !commit_once(alloc, store, cells, course, mode)? {
+        if !commit_once(alloc, store, cells, course, pace)? {
             return Ok(());
         }
     }
@@ -240,6 +251,7 @@ pub fn step_and_commit<V: Site, M: Picked, R: Reactions>(
     most: u32,
 ) -> Result<bool, Halt>
     requires serving { IsServing M.origin M.rules store.old cells.old.items course.old.port }
+    requires counted { IsCounted course.old.seen (trail_in store.old.logs) }
     requires flows { R.flows reactions.now ≡ M.rules.flows }
     requires some { 0 < pace.now.batch }
     requires few { pace.now.batch ≤ 64 }
@@ -251,13 +263,15 @@ pub fn step_and_commit<V: Site, M: Picked, R: Reactions>(
     ensures rises { IfErr result (RisesFor (V.disk_faults store.old.logs.site)
         (V.say_faults store.old.logs.site) (V.disk_faults store.new.logs.site)
         (V.say_faults store.new.logs.site)) }
-    ensures past { IfErr result (IsPast M.rules store.new) }
+    ensures past { IfErr result (IsPast M.rules store.new cells.new.items) }
     ensures clock { result ≢ Err Halt.ClockFault }
     ensures latest { store.new.logs.latest ≡ store.old.logs.latest }
-    ensures seen { course.new.seen ≡ course.old.seen }
+    ensures fewer { AreFew M.rules pace.now.steps (trail_in store.old.logs)
+        → AreFew M.rules pace.now.steps (trail_in store.new.logs) }
+    ensures counted { OnOk result (IsCounted course.new.seen (trail_in store.new.logs)) }
 {
     let turned = step_all(alloc, reactions, cells, course, turns, pace, most)?;
-    commit_all(alloc, store, cells, course, pace.mode)?;
+    commit_all(alloc, store, cells, course, pace)?;
     Ok(turned)
 }
 
@@ -271,6 +285,7 @@ fn make_and_commit<V: Site, M: Picked, R: Reactions>(
     pace: &Pace,
 ) -> Result<(), Halt>
     requires serving { IsServing M.origin M.rules store.old cells.old.items course.old.port }
+    requires counted { IsCounted course.old.seen (trail_in store.old.logs) }
     requires flows { R.flows reactions.now ≡ M.rules.flows }
     requires some { 0 < pace.now.batch }
     requires few { pace.now.batch ≤ 64 }
@@ -282,10 +297,12 @@ fn make_and_commit<V: Site, M: Picked, R: Reactions>(
     ensures rises { IfErr result (RisesFor (V.disk_faults store.old.logs.site)
         (V.say_faults store.old.logs.site) (V.disk_faults store.new.logs.site)
         (V.say_faults store.new.logs.site)) }
-    ensures past { IfErr result (IsPast M.rules store.new) }
+    ensures past { IfErr result (IsPast M.rules store.new cells.new.items) }
     ensures clock { result ≢ Err Halt.ClockFault }
     ensures latest { store.new.logs.latest ≡ store.old.logs.latest }
-    ensures seen { course.new.seen ≡ course.old.seen }
+    ensures fewer { AreFew M.rules pace.now.steps (trail_in store.old.logs)
+        → AreFew M.rules pace.now.steps (trail_in store.new.logs) }
+    ensures counted { OnOk result (IsCounted course.new.seen (trail_in store.new.logs)) }
 {
     let (often, most) = if pace.mode == Mode::None {
         (MOST_TURNS, 1)
@@ -301,8 +318,8 @@ fn make_and_commit<V: Site, M: Picked, R: Reactions>(
     Ok(())
 }
 
-/// One round: each partition takes in what waits for it and makes entries, frames are committed until none may go, and each task that is
-/// pending in what is settled runs once.
+/// One round: each partition takes in what waits for it and makes entries, frames are committed until none may go, or as many labels were
+/// settled as are enough, and else each task that is pending in what is settled runs once.
 pub fn round<V: Site, M: Picked, R: Reactions, A: Activities>(
     alloc: Global,
     reactions: &R,
@@ -313,6 +330,7 @@ pub fn round<V: Site, M: Picked, R: Reactions, A: Activities>(
     pace: &Pace,
 ) -> Result<(), Halt>
     requires serving { IsServing M.origin M.rules store.old cells.old.items course.old.port }
+    requires counted { IsCounted course.old.seen (trail_in store.old.logs) }
     requires flows { R.flows reactions.now ≡ M.rules.flows }
     requires some { 0 < pace.now.batch }
     requires few { pace.now.batch ≤ 64 }
@@ -324,12 +342,17 @@ pub fn round<V: Site, M: Picked, R: Reactions, A: Activities>(
     ensures rises { IfErr result (RisesFor (V.disk_faults store.old.logs.site)
         (V.say_faults store.old.logs.site) (V.disk_faults store.new.logs.site)
         (V.say_faults store.new.logs.site)) }
-    ensures past { IfErr result (IsPast M.rules store.new) }
+    ensures past { IfErr result (IsPast M.rules store.new cells.new.items) }
     ensures clock { result ≢ Err Halt.ClockFault }
     ensures latest { store.new.logs.latest ≡ store.old.logs.latest }
-    ensures seen { course.new.seen ≡ course.old.seen }
+    ensures fewer { AreFew M.rules pace.now.steps (trail_in store.old.logs)
+        → AreFew M.rules pace.now.steps (trail_in store.new.logs) }
+    ensures counted { OnOk result (IsCounted course.new.seen (trail_in store.new.logs)) }
 {
     make_and_commit(alloc, reactions, store, cells, course, pace)?;
+    if pace.steps <= course.seen.labels {
+        return Ok(());
+    }
     let turns = store.turns();
     match run_all_tasks(
         alloc,

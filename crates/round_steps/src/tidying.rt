@@ -6,11 +6,12 @@ ghost use Rattle.cell_frames.specs.Joined.{view_of};
 ghost use Rattle.hub_store.specs.Changes.{trail_in};
 ghost use Rattle.node_core.specs.Halts.{IsPast, RisesFor};
 ghost use Rattle.node_core.specs.Running.{IsRunning, Keeps};
+ghost use Rattle.round_steps.specs.Labels.{AreFew, IsCounted};
 ghost use Rattle.round_steps.specs.Serving.{GoesOn, IsServing};
 ghost use Rattle.world_steps.specs.Known.{AreMarksOf};
 
 use crate::clients::serve_all;
-use crate::course::Course;
+use crate::course::{Course, Pace};
 use crate::owning::follow_plan;
 use cell_frames::Seat;
 use cell_steps::Mode;
@@ -60,7 +61,7 @@ fn trim_now<V: Site, M: Picked>(
     ensures rises { IfErr result (RisesFor (V.disk_faults store.old.logs.site)
         (V.say_faults store.old.logs.site) (V.disk_faults store.new.logs.site)
         (V.say_faults store.new.logs.site)) }
-    ensures past { IfErr result (IsPast M.rules store.new) }
+    ensures past { IfErr result (IsPast M.rules store.new cells.new.items) }
     ensures clock { result ≢ Err Halt.ClockFault }
     ensures latest { store.new.logs.latest ≡ store.old.logs.latest }
     ensures seen { course.new.seen ≡ course.old.seen }
@@ -132,7 +133,7 @@ pub fn tidy<V: Site, M: Picked>(
     ensures rises { IfErr result (RisesFor (V.disk_faults store.old.logs.site)
         (V.say_faults store.old.logs.site) (V.disk_faults store.new.logs.site)
         (V.say_faults store.new.logs.site)) }
-    ensures past { IfErr result (IsPast M.rules store.new) }
+    ensures past { IfErr result (IsPast M.rules store.new cells.new.items) }
     ensures clock { result ≢ Err Halt.ClockFault }
     ensures latest { store.new.logs.latest ≡ store.old.logs.latest }
     ensures seen { course.new.seen ≡ course.old.seen }
@@ -166,10 +167,11 @@ fn judge_now<V: Site, M: Picked>(
     ensures rises { IfErr result (RisesFor (V.disk_faults store.old.logs.site)
         (V.say_faults store.old.logs.site) (V.disk_faults store.new.logs.site)
         (V.say_faults store.new.logs.site)) }
-    ensures past { IfErr result (IsPast M.rules store.new) }
+    ensures past { IfErr result (IsPast M.rules store.new cells.new.items) }
     ensures clock { result ≢ Err Halt.ClockFault }
     ensures latest { store.new.logs.latest ≡ store.old.logs.latest }
     ensures seen { course.new.seen ≡ course.old.seen }
+    ensures trail { trail_in store.new.logs ≡ trail_in store.old.logs }
 {
     let count = cells.len() as u32;
     let Ok(marks) = marks_now(alloc, store, count) else {
@@ -195,10 +197,11 @@ fn settle_given_up<V: Site, M: Picked>(
     ensures rises { IfErr result (RisesFor (V.disk_faults store.old.logs.site)
         (V.say_faults store.old.logs.site) (V.disk_faults store.new.logs.site)
         (V.say_faults store.new.logs.site)) }
-    ensures past { IfErr result (IsPast M.rules store.new) }
+    ensures past { IfErr result (IsPast M.rules store.new cells.new.items) }
     ensures clock { result ≢ Err Halt.ClockFault }
     ensures latest { store.new.logs.latest ≡ store.old.logs.latest }
     ensures seen { course.new.seen ≡ course.old.seen }
+    ensures trail { trail_in store.new.logs ≡ trail_in store.old.logs }
 {
     'passes: for _ in 0..MOST_PASSES {
         if !judge_now(alloc, store, cells, course)? {
@@ -216,9 +219,10 @@ pub fn follow<V: Site, M: Picked>(
     cells: &mut Vec<Cell<Seat<M>>>,
     course: &mut Course,
     clients: &[Name],
-    mode: Mode,
+    pace: &Pace,
 ) -> Result<bool, Halt>
     requires serving { IsServing M.origin M.rules store.old cells.old.items course.old.port }
+    requires counted { IsCounted course.old.seen (trail_in store.old.logs) }
     ensures goes { GoesOn M.rules store.old store.new }
     ensures kept { Keeps M.origin M.rules store.new }
     ensures whole { result ≢ Err Halt.SayFault → store.new.logs.cut ≡ false }
@@ -226,12 +230,14 @@ pub fn follow<V: Site, M: Picked>(
     ensures rises { IfErr result (RisesFor (V.disk_faults store.old.logs.site)
         (V.say_faults store.old.logs.site) (V.disk_faults store.new.logs.site)
         (V.say_faults store.new.logs.site)) }
-    ensures past { IfErr result (IsPast M.rules store.new) }
+    ensures past { IfErr result (IsPast M.rules store.new cells.new.items) }
     ensures clock { result ≢ Err Halt.ClockFault }
     ensures latest { store.new.logs.latest ≡ store.old.logs.latest }
-    ensures seen { course.new.seen ≡ course.old.seen }
+    ensures fewer { AreFew M.rules pace.now.steps (trail_in store.old.logs)
+        → AreFew M.rules pace.now.steps (trail_in store.new.logs) }
+    ensures counted { OnOk result (IsCounted course.new.seen (trail_in store.new.logs)) }
 {
-    if !follow_plan(alloc, store, cells, course, mode)? {
+    if !follow_plan(alloc, store, cells, course, pace)? {
         return Ok(false);
     }
     settle_given_up(alloc, store, cells, course)?;

@@ -14,7 +14,8 @@ use Rattle.hub_store.specs.Trail.{Settled}
 use Rattle.many_rules.specs.Rules.{Rules, IsFrom}
 use Rattle.node_core.specs.Growing.{IsStamped}
 use Rattle.node_core.specs.declared.halt.Halt.TheVariants as halts
-use Rattle.run_examples.specs.Clocks.{delivered}
+use Rattle.round_steps.specs.Labels.{AreFew, settled_labels}
+use Rattle.run_examples.specs.Clocks.{delivered, delivered_often, one_at_a_time}
 use Rattle.run_rules.specs.Rules.{IsBy}
 use Rattle.site_model.specs.Readings.{Reading, asked}
 
@@ -40,6 +41,13 @@ module _ (rules : Rules) where
   pub too_late : (enough : ℕ) (from to : Id) → (rules.begin 0).stamp ≤ 5 → GoesByClock rules enough [] 5 [] [] 5 (delivered from to 6) → ⊥
   too_late enough from to low course = let is = (first_of 5 from to 6 (of_one_moment enough 5 course refl).1).1 in absurd (omega (arith, is, low))
 
+  -- or has more items than an entry may have
+  pub too_full : (enough : ℕ) (from to : Id) → rules.most ≡ 0 → GoesByClock rules enough [] 5 [] [] 5 (delivered from to 5) → ⊥
+  too_full enough from to none course =
+      let one = All-head (IsStamped rules 5 5) _ [] (of_one_moment enough 5 course refl).1 in
+      let few = one.few in
+      absurd (omega (arith, few, none))
+
   none_heard : {readings : List Reading} {moment : ℕ} {settled : List Settled} → GoesByClock rules 0 [] 5 [] readings moment settled → readings ≡ []
   none_heard begins = refl
   none_heard (hears course few reading) = absurd (omega (arith, few))
@@ -50,10 +58,10 @@ module _ (rules : Rules) where
   read_again course = let none = none_heard course in absurd (cc none)
 
   -- a reading, and then a delivery at its moment
-  pub goes_by_clock : (from to : Id) → GoesByClock rules 1 [] 5 [] (asked 7 ∷ []) 7 (delivered from to 7)
-  goes_by_clock from to =
+  pub goes_by_clock : (from to : Id) → 0 < rules.most → GoesByClock rules 1 [] 5 [] (asked 7 ∷ []) 7 (delivered from to 7)
+  goes_by_clock from to some =
       settles (hears begins (omega arith) (asked 7)) (delivered from to 7)
-      (All-cons (IsStamped rules 7 7) _ [] (record { from = All-cons (IsFrom 7) _ [] (omega arith) (All-nil (IsFrom 7)); by = All-cons (IsBy (max (rules.begin 0).stamp 7)) _ [] (omega arith) (All-nil (IsBy (max (rules.begin 0).stamp 7))) }) (All-nil (IsStamped rules 7 7)))
+      (All-cons (IsStamped rules 7 7) _ [] (record { few = omega (arith, some); from = All-cons (IsFrom 7) _ [] (omega arith) (All-nil (IsFrom 7)); by = All-cons (IsBy (max (rules.begin 0).stamp 7)) _ [] (omega arith) (All-nil (IsBy (max (rules.begin 0).stamp 7))) }) (All-nil (IsStamped rules 7 7)))
 
   -- what the clock gave stays
   never_less : (enough latest : ℕ) (first : Reading) (given : List Reading) {readings : List Reading} {moment : ℕ} {settled : List Settled} → GoesByClock rules enough (first ∷ given) latest [] readings moment settled → readings ≡ [] → ⊥
@@ -74,3 +82,11 @@ module _ (rules : Rules) where
   -- the clock failed first
   pub clock_failed : (enough : ℕ) → BeginsAt rules enough (heard_of [] [] 5) [] (cames.Halted halts.ClockFault) 0
   clock_failed enough = none_given refl refl refl
+
+-- ---- how many labels there may be
+
+pub one_frame : (from to : Id) → AreFew one_at_a_time 1 (delivered_often 64 from to)
+one_frame from to = let many : settled_labels (delivered_often 64 from to) ≡ 64 = refl in omega (arith, many)
+
+pub one_too_many : (from to : Id) → AreFew one_at_a_time 1 (delivered_often 65 from to) → ⊥
+one_too_many from to few = let many : settled_labels (delivered_often 65 from to) ≡ 65 = refl in absurd (omega (arith, few, many))

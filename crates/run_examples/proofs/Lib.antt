@@ -8,6 +8,7 @@ pub mod Orders
 pub mod Places
 pub mod Quiescent
 pub mod Ready
+pub mod Saying
 pub mod Shown
 pub mod Stillness
 pub mod SyncsLeave

@@ -3,4 +3,5 @@ pub mod Clocks
 pub mod Directories
 pub mod Going
 pub mod Promised
+pub mod Saying
 pub mod States

@@ -5,7 +5,8 @@
 //! - `recovery_examples`: those of what is recovered (`recover_core`).
 //! - `call_examples`: those of the call (`engine_run`, `cluster_run`); `refusal_examples`: what its files held, and why they are refused;
 //!   `going_examples`: what stands on files that a run of one partition leaves; `life_examples`: calls one after another;
-//!   `clock_examples`: what goes by a clock; `show_examples`: what a call shows; `promise_examples`: the list of all that it promises.
+//!   `clock_examples`: what goes by a clock; `saying_examples`: what a call says; `show_examples`: what a call shows;
+//!   `promise_examples`: the list of all that it promises.
 #![tactic(auto)]
 
 mod call_examples;
@@ -15,5 +16,6 @@ mod life_examples;
 mod promise_examples;
 mod recovery_examples;
 mod refusal_examples;
+mod saying_examples;
 mod show_examples;
 mod state_examples;

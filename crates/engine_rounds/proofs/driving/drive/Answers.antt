@@ -1,6 +1,6 @@
 use Rattle.std.proofs.Common.{◌≡◌, List, Err, ap, subst, sym, arith}
 use Rattle.hub_store.specs.Trail.{Settled}
-use Rattle.round_steps.specs.Labels.{IsCounted}
+use Rattle.round_steps.specs.Labels.{AreFew, IsCounted}
 use Rattle.engine_rounds.proofs.Given.{clock_goes, clock_then}
 use Rattle.node_core.specs.declared.halt.Halt.{Halt}
 use Rattle.node_core.specs.declared.halt.Halt.TheVariants as halts
@@ -18,6 +18,7 @@ rounds-preserved g c =
       ticks = let one = inv.ticks in let two = h.ticks in omega (arith, one, two);
       latest = let one = inv.latest in let two = h.latest in omega (arith, one, two);
       by_clock = clock_then g.M.Picked.rules c.args.pace.now.steps (g.C.Clock.given c.args.clock.now) (g.C.Clock.given c.rounds.clock) (g.C.Clock.given c.go_on.new.clock) c.args.store.now c.rounds.store c.go_on.new.store inv.by_clock h.by_clock;
+      fewer = λ few. h.fewer (inv.fewer few);
       heard = λ low. h.heard (inv.heard low);
     }
 
@@ -49,5 +50,6 @@ rounds-init g c =
       ticks = omega arith;
       latest = omega arith;
       by_clock = clock_goes g.M.Picked.rules c.args.pace.now.steps (g.C.Clock.given c.args.clock.now) c.args.store.now c.serve_all.new.store c.serve_all.ensures.goes c.serve_all.ensures.latest;
+      fewer = λ few. subst (AreFew g.M.Picked.rules c.args.pace.now.steps) (sym h.trail) few;
       heard = λ low. let same = h.latest in omega (arith, low, same);
     }

@@ -1,7 +1,7 @@
 use Rattle.std.specs.Prelude.{◌≤◌}
 use Rattle.engine_rounds.specs.Heard.{ByClock}
 use Rattle.hub_store.specs.Changes.{trail_in}
-use Rattle.round_steps.specs.Labels.{IsCounted}
+use Rattle.round_steps.specs.Labels.{AreFew, IsCounted}
 use Rattle.round_steps.specs.Serving.{GoesOn, IsServing}
 use Rattle.engine_rounds.proofs.driving.drive.Given as goal
 
@@ -14,5 +14,6 @@ invariant-rounds g l = record {
   ticks : g.C.Clock.clock_faults l.fn.clock ≤ g.C.Clock.clock_faults l.clock;
   latest : g.C.Clock.latest l.fn.clock ≤ g.C.Clock.latest l.clock;
   by_clock : ByClock g.M.Picked.rules l.fn.pace.steps (g.C.Clock.given l.fn.clock) l.fn.store (g.C.Clock.given l.clock) l.store;
+  fewer : AreFew g.M.Picked.rules l.fn.pace.steps (trail_in l.fn.store.logs) → AreFew g.M.Picked.rules l.fn.pace.steps (trail_in l.store.logs);
   heard : l.fn.store.logs.latest ≤ g.C.Clock.latest l.fn.clock → l.store.logs.latest ≤ g.C.Clock.latest l.clock;
 }

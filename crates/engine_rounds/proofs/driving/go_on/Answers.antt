@@ -15,17 +15,17 @@ returns-in_err-give_up-clause-by_clock g c = clock_goes g.M.Picked.rules c.args.
 pub returns-then-holds_some-clause-by_clock : goal.returns-then-holds_some-clause-by_clock
 returns-then-holds_some-clause-by_clock g c = clock_goes g.M.Picked.rules c.args.pace.now.steps (g.C.Clock.given c.args.clock.now) c.args.store.now c.give_up.new.store c.give_up.ensures.goes c.give_up.ensures.latest
 
-pub returns-in_err-settled-clause-goes : goal.returns-in_err-settled-clause-goes
-returns-in_err-settled-clause-goes g c = goes_then g.M.Picked.rules c.args.store.now c.go_round.new.store c.give_up-2.new.store (c.go_round.ensures.goes) c.give_up-2.ensures.goes
+pub returns-in_err-give_up-2-clause-goes : goal.returns-in_err-give_up-2-clause-goes
+returns-in_err-give_up-2-clause-goes g c = goes_then g.M.Picked.rules c.args.store.now c.go_round.new.store c.give_up-2.new.store (c.go_round.ensures.goes) c.give_up-2.ensures.goes
 
-pub returns-in_err-settled-clause-by_clock : goal.returns-in_err-settled-clause-by_clock
-returns-in_err-settled-clause-by_clock g c = clock_then_goes g.M.Picked.rules c.args.pace.now.steps (g.C.Clock.given c.args.clock.now) (g.C.Clock.given c.go_round.new.clock) c.args.store.now c.go_round.new.store c.give_up-2.new.store (c.go_round.ensures.by_clock) c.give_up-2.ensures.goes c.give_up-2.ensures.latest
+pub returns-in_err-give_up-2-clause-by_clock : goal.returns-in_err-give_up-2-clause-by_clock
+returns-in_err-give_up-2-clause-by_clock g c = clock_then_goes g.M.Picked.rules c.args.pace.now.steps (g.C.Clock.given c.args.clock.now) (g.C.Clock.given c.go_round.new.clock) c.args.store.now c.go_round.new.store c.give_up-2.new.store (c.go_round.ensures.by_clock) c.give_up-2.ensures.goes c.give_up-2.ensures.latest
 
-pub returns-then-settled-gt0-clause-goes : goal.returns-then-settled-gt0-clause-goes
-returns-then-settled-gt0-clause-goes g c = goes_then g.M.Picked.rules c.args.store.now c.go_round.new.store c.give_up-2.new.store (c.go_round.ensures.goes) c.give_up-2.ensures.goes
+pub returns-then-branch-2-clause-goes : goal.returns-then-branch-2-clause-goes
+returns-then-branch-2-clause-goes g c = goes_then g.M.Picked.rules c.args.store.now c.go_round.new.store c.give_up-2.new.store (c.go_round.ensures.goes) c.give_up-2.ensures.goes
 
-pub returns-then-settled-gt0-clause-by_clock : goal.returns-then-settled-gt0-clause-by_clock
-returns-then-settled-gt0-clause-by_clock g c = clock_then_goes g.M.Picked.rules c.args.pace.now.steps (g.C.Clock.given c.args.clock.now) (g.C.Clock.given c.go_round.new.clock) c.args.store.now c.go_round.new.store c.give_up-2.new.store (c.go_round.ensures.by_clock) c.give_up-2.ensures.goes c.give_up-2.ensures.latest
+pub returns-then-branch-2-clause-by_clock : goal.returns-then-branch-2-clause-by_clock
+returns-then-branch-2-clause-by_clock g c = clock_then_goes g.M.Picked.rules c.args.pace.now.steps (g.C.Clock.given c.args.clock.now) (g.C.Clock.given c.go_round.new.clock) c.args.store.now c.go_round.new.store c.give_up-2.new.store (c.go_round.ensures.by_clock) c.give_up-2.ensures.goes c.give_up-2.ensures.latest
 
 pub returns-in_err-pump-clause-goes : goal.returns-in_err-pump-clause-goes
 returns-in_err-pump-clause-goes g c = goes_then g.M.Picked.rules c.args.store.now c.give_up-2.new.store c.pump.new.store (goes_then g.M.Picked.rules c.args.store.now c.go_round.new.store c.give_up-2.new.store (c.go_round.ensures.goes) c.give_up-2.ensures.goes) c.pump.ensures.goes

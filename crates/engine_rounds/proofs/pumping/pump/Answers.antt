@@ -19,6 +19,7 @@ pushes-preserved g c =
       counted = c.in_ok-pumped.ensures.counted;
       same = none ∙ inv.same;
       by_clock = clock_then g.M.Picked.rules c.args.pace.now.steps (g.C.Clock.given c.args.clock.now) (g.C.Clock.given c.pushes.clock) (g.C.Clock.given c.push_on.new.clock) c.args.store.now c.pushes.store c.push_on.new.store inv.by_clock h.by_clock;
+      fewer = λ few. h.fewer (inv.fewer few);
       heard = λ low. h.heard (inv.heard low);
     }
 
@@ -51,5 +52,6 @@ pushes-init g c = record {
   counted = c.requires.counted;
   same = refl;
   by_clock = clock_not g.M.Picked.rules c.args.pace.now.steps (g.C.Clock.given c.args.clock.now) c.args.store.now;
+  fewer = λ few. few;
   heard = λ low. low;
 }

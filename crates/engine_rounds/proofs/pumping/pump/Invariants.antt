@@ -1,7 +1,7 @@
 use Rattle.std.specs.Prelude.{◌≡◌, ◌≤◌}
 use Rattle.engine_rounds.specs.Heard.{ByClock}
 use Rattle.hub_store.specs.Changes.{trail_in}
-use Rattle.round_steps.specs.Labels.{IsCounted, settled_labels}
+use Rattle.round_steps.specs.Labels.{AreFew, IsCounted, settled_labels}
 use Rattle.round_steps.specs.Serving.{GoesOn, IsServing}
 use Rattle.engine_rounds.proofs.pumping.pump.Given as goal
 
@@ -15,5 +15,6 @@ invariant-pushes g l = record {
   counted : IsCounted l.course.seen (trail_in l.store.logs);
   same : settled_labels (trail_in l.store.logs) ≡ settled_labels (trail_in l.fn.store.logs);
   by_clock : ByClock g.M.Picked.rules l.fn.pace.steps (g.C.Clock.given l.fn.clock) l.fn.store (g.C.Clock.given l.clock) l.store;
+  fewer : AreFew g.M.Picked.rules l.fn.pace.steps (trail_in l.fn.store.logs) → AreFew g.M.Picked.rules l.fn.pace.steps (trail_in l.store.logs);
   heard : l.fn.store.logs.latest ≤ g.C.Clock.latest l.fn.clock → l.store.logs.latest ≤ g.C.Clock.latest l.clock;
 }

@@ -19,6 +19,8 @@ use Rattle.hub_store.specs.Ways.{LogFits, way_of}
 use Rattle.many_rules.specs.Ledgers.{ledgers}
 use Rattle.node_core.specs.Halts.{IsPast, RisesFor}
 use Rattle.node_core.specs.declared.halt.Halt.TheVariants as halts
+use Rattle.round_steps.proofs.Counts.{first_few}
+use Rattle.round_steps.specs.Labels.{AreFew}
 use Rattle.round_steps.specs.Serving.{IsServing}
 use Rattle.site_model.specs.History.{back_to, changes_of, content_of}
 use Rattle.site_model.specs.Moments.{Always}
@@ -70,6 +72,11 @@ returns-clause-on g c =
       told = told_in logs;
       queues = c.drive_since-rounds.new.course.port;
       port_is = ap Some c.into_port.ensures;
+      few =
+          let some = c.requires.serving.running.some in
+          let most : 0 < rules.most = let low = c.requires.batch in let high = c.requires.bound in omega (arith, low, high) in
+          let none = subst (λ (t : List Settled). AreFew rules c.args.pace.steps t) (sym c.requires.nothing) (first_few rules c.args.pace.steps some most) in
+          subst (λ (t : List Settled). AreFew rules c.args.pace.steps t) (sym e.trail) (h.fewer none);
       says = λ tells apart.
           let whole = h.whole (λ is. apart (c.came_of.ensures ∙ ap came_of is)) in
           let said = all_said rules o (g.V.Site.history logs.site) (trail_in logs) (told_in logs) ((h.kept.sound.told (subst g.V.Site.tells e.site tells)).rests whole) in
@@ -78,10 +85,11 @@ returns-clause-on g c =
       halts = λ halt came.
           let is = halted_so c.drive_since-rounds.result halt (sym c.came_of.ensures ∙ came) in
           let store = c.drive_since-rounds.new.store in
-          let past = subst (λ r. IfErr r (IsPast rules store)) is h.past in
+          let cells = c.drive_since-rounds.new.cells.items in
+          let past = subst (λ r. IfErr r (IsPast rules store cells)) is h.past in
           let fits : g.V.Site.tells logs.site → (p : ℕ) → p < rules.count → LogFits (o.logs p) (of_part p (trail_in logs)) (changes_of (o.logs p).file (g.V.Site.history logs.site)) (way_of logs.ways.items p) =
           λ told p below. (h.kept.sound.told told).logs p (subst (λ (n : ℕ). p < n) g.N.Named.counts below) in
-          let why = halts_for o rules store (g.C.Clock.latest c.drive_since-rounds.new.clock) (h.heard c.requires.latest) fits halt past in
+          let why = halts_for o rules store (g.C.Clock.latest c.drive_since-rounds.new.clock) (h.heard c.requires.latest) fits cells halt past in
           subst (λ (n : ℕ). HaltsFor rules o n (g.C.Clock.latest c.drive_since-rounds.new.clock) (g.V.Site.tells c.end_call-site.result.site) (g.V.Site.history c.end_call-site.result.site) c.end_call-site.result.trail (told_in logs) halt) h.goes.segment
           (subst (λ (t : List Settled). HaltsFor rules o logs.segment (g.C.Clock.latest c.drive_since-rounds.new.clock) (g.V.Site.tells c.end_call-site.result.site) (g.V.Site.history c.end_call-site.result.site) t (told_in logs) halt) (sym e.trail)
           (subst (λ site. HaltsFor rules o logs.segment (g.C.Clock.latest c.drive_since-rounds.new.clock) (g.V.Site.tells site) (g.V.Site.history site) (trail_in logs) (told_in logs) halt) (sym e.site) why));

@@ -1,5 +1,5 @@
-use Rattle.hub_store.specs.Changes.{KeepsAll}
-use Rattle.node_core.specs.Growing.{GrowsOn}
+use Rattle.std.specs.Prelude.{◌≡◌}
+use Rattle.hub_store.specs.Changes.{KeepsAll, trail_in}
 use Rattle.node_core.specs.Running.{IsRunning}
 use Rattle.node_core.proofs.waves.open_all.Given as goal
 
@@ -7,6 +7,6 @@ use Rattle.node_core.proofs.waves.open_all.Given as goal
 abbrev pub invariant-parts : goal.invariant-parts
 invariant-parts g l = record {
   keeps : KeepsAll l.fn.store.logs l.store.logs;
-  grows : GrowsOn g.M.Picked.rules l.fn.store l.store;
+  trail : trail_in l.store.logs ≡ trail_in l.fn.store.logs;
   running : IsRunning g.M.Picked.origin g.M.Picked.rules l.store l.cells;
 }

@@ -1,9 +1,6 @@
-use Rattle.node_core.proofs.Growing.{grows_on_then}
+use Rattle.std.proofs.Common.{◌∙◌}
 use Rattle.node_core.proofs.Steps.{then_all}
 use Rattle.node_core.proofs.waves.write_all.Goals as goal
-
-pub returns-in_err-write_part-clause-grows : goal.returns-in_err-write_part-clause-grows
-returns-in_err-write_part-clause-grows g c = grows_on_then g.M.Picked.rules c.args.store.now c.parts.store c.write_part.new.store c.parts.invariant.grows c.write_part.ensures.grows
 
 pub parts-preserved : goal.parts-preserved
 parts-preserved g c =
@@ -11,6 +8,6 @@ parts-preserved g c =
     let h = c.write_part.ensures in
     record {
       keeps = then_all c.args.store.now.logs c.parts.store.logs c.write_part.new.store.logs inv.keeps h.keeps;
-      grows = grows_on_then g.M.Picked.rules c.args.store.now c.parts.store c.write_part.new.store inv.grows h.grows;
+      trail = h.trail ∙ inv.trail;
       running = c.in_ok-write_part.ensures.running;
     }

@@ -13,5 +13,6 @@ parts-preserved g c =
       goes = goes_then g.M.Picked.rules c.args.store.now c.parts.store c.follow_part.new.store c.parts.invariant.goes c.follow_part.ensures.goes;
       serving = c.in_ok-follow_part.ensures.serving;
       latest = h.latest ∙ inv.latest;
-      seen = h.seen ∙ inv.seen;
+      fewer = λ few. h.fewer (inv.fewer few);
+      counted = c.in_ok-follow_part.ensures.counted;
     }

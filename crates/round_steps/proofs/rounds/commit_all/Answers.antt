@@ -16,5 +16,6 @@ waves-preserved g c =
       goes = goes_then g.M.Picked.rules c.args.store.now c.waves.store c.commit_once.new.store c.waves.invariant.goes c.commit_once.ensures.goes;
       serving = c.in_ok-commit_once.ensures.serving;
       latest = h.latest ∙ inv.latest;
-      seen = h.seen ∙ inv.seen;
+      fewer = λ few. h.fewer (inv.fewer few);
+      counted = c.in_ok-commit_once.ensures.counted;
     }

@@ -16,5 +16,6 @@ turns-preserved g c =
       goes = goes_then g.M.Picked.rules c.args.store.now c.turns.store c.step_and_commit.new.store c.turns.invariant.goes c.step_and_commit.ensures.goes;
       serving = c.in_ok-step_and_commit.ensures.serving;
       latest = h.latest ∙ inv.latest;
-      seen = h.seen ∙ inv.seen;
+      fewer = λ few. h.fewer (inv.fewer few);
+      counted = c.in_ok-step_and_commit.ensures.counted;
     }

@@ -17,4 +17,5 @@ passes-preserved g c =
       serving = c.in_ok-judge_now.ensures.serving;
       latest = h.latest ∙ inv.latest;
       seen = h.seen ∙ inv.seen;
+      trail = h.trail ∙ inv.trail;
     }

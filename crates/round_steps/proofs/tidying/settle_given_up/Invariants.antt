@@ -1,4 +1,5 @@
 use Rattle.std.specs.Prelude.{◌≡◌}
+use Rattle.hub_store.specs.Changes.{trail_in}
 use Rattle.round_steps.specs.Serving.{GoesOn, IsServing}
 use Rattle.round_steps.proofs.tidying.settle_given_up.Given as goal
 
@@ -9,4 +10,5 @@ invariant-passes g l = record {
   serving : IsServing g.M.Picked.origin g.M.Picked.rules l.store l.cells.items l.course.port;
   latest : l.store.logs.latest ≡ l.fn.store.logs.latest;
   seen : l.course.seen ≡ l.fn.course.seen;
+  trail : trail_in l.store.logs ≡ trail_in l.fn.store.logs;
 }

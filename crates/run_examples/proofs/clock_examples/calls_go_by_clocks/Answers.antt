@@ -1,4 +1,4 @@
-use Rattle.run_examples.proofs.Clocks.{goes_by_clock, read_again, too_early, too_late}
+use Rattle.run_examples.proofs.Clocks.{goes_by_clock, read_again, too_early, too_full, too_late}
 use Rattle.run_examples.proofs.clock_examples.calls_go_by_clocks.Goals as goal
 
 pub returns-clause-goes : goal.returns-clause-goes
@@ -12,3 +12,6 @@ returns-clause-late c = too_late
 
 pub returns-clause-enough : goal.returns-clause-enough
 returns-clause-enough c = read_again
+
+pub returns-clause-crowded : goal.returns-clause-crowded
+returns-clause-crowded c = too_full
