@@ -13,10 +13,12 @@ use Rattle.call_begins.specs.Says.{AnyFollows}
 use Rattle.hub_store.specs.Moments.{SaidSoFar}
 use Rattle.hub_store.specs.Moments.SaidSoFar.{silent, settles, says}
 use Rattle.hub_store.specs.Trail.{Settled, Said}
-use Rattle.many_rules.specs.Rules.{Answers, commits_of}
+use Rattle.many_rules.specs.Rules.{Answers, commits_of, rules_at}
 use Rattle.many_logs.specs.Placing.{states_after}
+use Rattle.run_rules.specs.Rules.{request_at}
 use Rattle.node_core.specs.declared.halt.Halt.{Halt}
 use Rattle.node_core.specs.declared.halt.Halt.TheVariants as halts
+use Rattle.request_reader.specs.Line.{Request}
 use Rattle.rest_check.specs.Rest.{IsAtRest}
 use Rattle.round_steps.specs.Labels.{settled_labels}
 use Rattle.round_steps.specs.Serving.{HasSaid}
@@ -34,10 +36,13 @@ not_at_rest queues rest =
     cc (none, made)
 
 -- nothing is asked for, so nothing is said
+none_asked : (client : List ℕ) (place : ℕ) (request : Request) → request_at (rules_at one_at_a_time 0) client place ≡ Some request → ⊥
+none_asked client place request is = let some = slice_get_within {A = Request} [] place request is in absurd (omega (arith, some))
+
 nothing_said : {trail : List Settled} {told : List Said} {lines : List ℕ} → SaidSoFar AnyFollows (Answers one_at_a_time) trail told lines → lines ≡ []
 nothing_said silent = refl
 nothing_said (settles before partition at going follows) = nothing_said before
-nothing_said (says before one line may) = let asked = (may.next refl).asked in let some = slice_get_within [] _ _ asked in absurd (omega (arith, some))
+nothing_said (says before one line may) = let next = may.next refl in absurd (none_asked one.client 0 next.request next.asked)
 
 -- where no client asks, and none was told
 nobody : HasSaid [] [] []
@@ -48,7 +53,7 @@ ended ends.Rest is = absurd (cc is)
 ended (ends.Long labels) is =
     let same : labels ≡ 64 = cc is in
     let many : settled_labels (delivered_often 64 asker sum) ≡ 64 = refl in
-    (nobody, omega (arith, same, many), omega (arith, same), not_at_rest [])
+    (nobody, (omega (arith, same, many), omega (arith, same), not_at_rest []))
 
 pub says_on : SaysOfMany [] 64 (cames.Ended (ends.Long 64)) (Some [])
 says_on = record {
