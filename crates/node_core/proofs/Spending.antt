@@ -13,7 +13,7 @@ use Rattle.hub_store.specs.declared.start.Start as starts
 use Rattle.many_rules.specs.Rules.{Rules}
 use Rattle.node_core.specs.Halts.{ComesTo, IsInner, IsPast, IsSpent}
 use Rattle.node_core.specs.Running.{IsRunning}
-use Rattle.node_core.specs.Stepping.{StepsPart}
+use Rattle.node_core.specs.Stepping.{TurnsPart}
 use Rattle.node_core.specs.declared.halt.Halt.{Halt}
 use Rattle.node_core.specs.declared.halt.Halt.TheVariants as halts
 use Rattle.node_core.specs.declared.stepping.Stepped.TheVariants as steps
@@ -34,11 +34,10 @@ became : (p : ℕ) (cells later : List CellView) (Does : CellView → CellView �
 became p cells later Does b = subst (λ (l : List CellView). slice_get l p ≡ Some b.after) (sym b.becomes) (there_now cells p b.cell b.after b.there)
 
 -- in a turn
-pub turned_spent : (rules : Rules) (mode : Mode) (limit p : ℕ) (old new : List CellView) (number : ℕ) → StepsPart rules mode limit p old new (steps.Spent number) → (s : StoreView) → AllJoined rules s new → IsSpent rules s new p number
-turned_spent rules mode limit p old new number does s joined =
-    let b = does.turns in
+pub turned_spent : (rules : Rules) (mode : Mode) (limit p : ℕ) (old new : List CellView) (number : ℕ) → TurnsPart rules mode limit p old new (steps.Spent number) → (s : StoreView) → AllJoined rules s new → IsSpent rules s new p number
+turned_spent rules mode limit p old new number b s joined =
     let spent = b.does.1 in
-    let there = became p does.between new _ b in
+    let there = became p old new _ b in
     let comes : ComesTo rules b.cell number = elim spent.number_is [
       | inl at ↦ inl (spent.is_begun.ahead, spent.is_begun.is_ahead, at)
       | inr own ↦ inr (inl own)

@@ -24,8 +24,6 @@ TurnsAs rules mode limit steps.Held c after = CellTurns rules.flows rules.count 
 TurnsAs rules mode limit steps.Idle c after = CellTurns rules.flows rules.count (rules.begin c.number) mode limit c turns.Idle after
 TurnsAs rules mode limit (steps.Spent number) c after = CellTurns rules.flows rules.count (rules.begin c.number) mode limit c (turns.Spent number) after
 
--- Packets came to the cell of a partition, and it made a turn.
-pub record StepsPart (rules : Rules) (mode : Mode) (limit partition : ℕ) (old new : List CellView) (stepped : Stepped) : Type 0 where
-  pub between : List CellView
-  pub waits : OnlyWaits partition old between
-  pub turns : CellBecomes partition between new (TurnsAs rules mode limit stepped)
+-- The cell of a partition made a turn, and no other changed.
+abbrev pub TurnsPart : Rules → Mode → (limit partition : ℕ) → (old new : List CellView) → Stepped → Type 0
+TurnsPart rules mode limit partition old new stepped = CellBecomes partition old new (TurnsAs rules mode limit stepped)

@@ -1,8 +1,8 @@
-//! What waits for a partition comes to it, and it makes an entry.
+//! What waits for a partition comes to it; and it makes an entry.
 
 ghost use Rattle.std.specs.Prelude.{◌≡◌, ◌≤◌, ◌<◌, length, IfOk, OnOk};
 ghost use Rattle.cell_frames.specs.Joined.{StoreView};
-ghost use Rattle.node_core.specs.Stepping.{OnlyWaits, StepsPart};
+ghost use Rattle.node_core.specs.Stepping.{OnlyWaits, TurnsPart};
 ghost use Rattle.world_steps.specs.Cells.{AllJoined};
 
 use cell_frames::Seat;
@@ -32,7 +32,7 @@ pub enum Stepped {
 }
 
 /// The packets that wait for a partition come to its cell, the first put first.
-pub(crate) fn take_in<M: Picked>(
+pub fn take_in<M: Picked>(
     alloc: Global,
     cells: &mut Vec<Cell<Seat<M>>>,
     transport: &mut Transport,
@@ -75,8 +75,8 @@ pub fn send(transport: &mut Transport, packets: Vec<Packet>) -> Result<bool, All
     Ok(fits)
 }
 
-/// The packets that wait for a partition come to its cell, it makes an entry of at most so many items, if it may, and what that sends at
-/// once goes on its way.
+/// A partition makes an entry of at most so many items, if it may, and what that sends at once goes on its way. Packets that wait for it don't
+/// come by that.
 pub fn step_turn<M: Picked, R: Reactions>(
     alloc: Global,
     reactions: &R,
@@ -92,12 +92,11 @@ pub fn step_turn<M: Picked, R: Reactions>(
     requires bound { limit ≤ M.rules.most }
     requires place { part < length cells.old.items }
     ensures many { length cells.new.items ≡ length cells.old.items }
-    ensures steps { IfOk result (λ both. StepsPart M.rules mode limit part cells.old.items
+    ensures steps { IfOk result (λ both. TurnsPart M.rules mode limit part cells.old.items
         cells.new.items both.0) }
     ensures joined { (s : StoreView) → AllJoined M.rules s cells.old.items
         → OnOk result (AllJoined M.rules s cells.new.items) }
 {
-    take_in(alloc, cells, transport, part)?;
     match turn_at(alloc, reactions, cells, part, limit, mode)? {
         CellTurn::Turned(position, packets) => {
             let fits = send(transport, packets)?;
