@@ -17,7 +17,7 @@ use cell_frames::Seat;
 use cell_steps::Mode;
 use gated_store::GatedStore;
 use many_rules::{ByRules, Picked};
-use node_core::{Halt, Stepped, commit_wave, step_turn};
+use node_core::{Halt, Stepped, commit_wave, step_turn, take_in};
 use part_rows::Reactions;
 use part_transport::Transport;
 use site_model::Site;
@@ -30,7 +30,7 @@ const MOST_TURNS: u32 = 16;
 /// The most waves of a round. Each settles a frame, if no node stops in it.
 const MOST_WAVES: u32 = 1 << 20;
 
-/// What waits for a partition comes to it, and it makes an entry, if it may. It says whether what that sends found room, where one was made.
+/// A partition makes an entry, if it may. It says whether what that sends found room, where one was made.
 fn turn_part<M: Picked, R: Reactions>(
     alloc: Global,
     reactions: &R,
@@ -136,7 +136,7 @@ fn step_one<M: Picked, R: Reactions>(
 }
 
 /// Each partition whose node hasn't stopped makes entries. It says whether one was made.
-pub fn step_all<M: Picked, R: Reactions>(
+fn turn_all<M: Picked, R: Reactions>(
     alloc: Global,
     reactions: &R,
     cells: &mut Vec<Cell<Seat<M>>>,
@@ -165,6 +165,80 @@ pub fn step_all<M: Picked, R: Reactions>(
         }
     }
     Ok(turned)
+}
+
+/// The packets that wait for a partition come to it, unless its node has stopped by so many turns of the store.
+fn take_in_part<M: Picked>(
+    alloc: Global,
+    cells: &mut Vec<Cell<Seat<M>>>,
+    course: &mut Course,
+    turns: u64,
+    part: u32,
+) -> Result<(), Halt>
+    requires place { part < length cells.old.items }
+    ensures many { length cells.new.items ≡ length cells.old.items }
+    ensures joined { (s : StoreView) → AllJoined M.rules s cells.old.items
+        → OnOk result (AllJoined M.rules s cells.new.items) }
+    ensures memory { IfErr result (λ halt. halt ≡ Halt.Memory) }
+    ensures port { course.new.port ≡ course.old.port }
+    ensures seen { course.new.seen ≡ course.old.seen }
+{
+    if course.crew.has_stopped(part, turns) {
+        return Ok(());
+    }
+    match take_in(alloc, cells, &mut course.transport, part) {
+        Ok(()) => Ok(()),
+        Err(_) => Err(Halt::Memory),
+    }
+}
+
+/// The packets that wait come to all partitions whose nodes haven't stopped.
+fn take_in_all<M: Picked>(
+    alloc: Global,
+    cells: &mut Vec<Cell<Seat<M>>>,
+    course: &mut Course,
+    turns: u64,
+) -> Result<(), Halt>
+    requires place { length cells.old.items ≤ 32 }
+    ensures many { length cells.new.items ≡ length cells.old.items }
+    ensures joined { (s : StoreView) → AllJoined M.rules s cells.old.items
+        → OnOk result (AllJoined M.rules s cells.new.items) }
+    ensures memory { IfErr result (λ halt. halt ≡ Halt.Memory) }
+    ensures port { course.new.port ≡ course.old.port }
+    ensures seen { course.new.seen ≡ course.old.seen }
+{
+    let count = cells.len() as u32;
+    'parts: for part in 0..count {
+        take_in_part(alloc, cells, course, turns, part)?;
+    }
+    Ok(())
+}
+
+/// What waits comes to each partition, and then each makes entries, unless its node has stopped. It says whether one was made. What one sends
+/// comes to another only the next time: so no entry is made of one that isn't settled elsewhere, and the frames of all partitions go in one wave.
+pub fn step_all<M: Picked, R: Reactions>(
+    alloc: Global,
+    reactions: &R,
+    cells: &mut Vec<Cell<Seat<M>>>,
+    course: &mut Course,
+    turns: u64,
+    pace: &Pace,
+    most: u32,
+) -> Result<bool, Halt>
+    requires flows { R.flows reactions.now ≡ M.rules.flows }
+    requires some { 0 < pace.now.batch }
+    requires few { pace.now.batch ≤ 64 }
+    requires bound { pace.now.batch ≤ M.rules.most }
+    requires place { length cells.old.items ≤ 32 }
+    ensures many { length cells.new.items ≡ length cells.old.items }
+    ensures joined { (s : StoreView) → AllJoined M.rules s cells.old.items
+        → OnOk result (AllJoined M.rules s cells.new.items) }
+    ensures inner { IfErr result (IsInner M.rules cells.old.items cells.new.items) }
+    ensures port { course.new.port ≡ course.old.port }
+    ensures seen { course.new.seen ≡ course.old.seen }
+{
+    take_in_all(alloc, cells, course, turns)?;
+    turn_all(alloc, reactions, cells, course, turns, pace, most)
 }
 
 /// A wave of frames is committed, where fewer labels were settled than are enough. It says whether a frame was written.
@@ -318,7 +392,7 @@ fn make_and_commit<V: Site, M: Picked, R: Reactions>(
     Ok(())
 }
 
-/// One round: each partition takes in what waits for it and makes entries, frames are committed until none may go, or as many labels were
+/// One round: what waits comes to each partition, each makes entries, frames are committed until none may go, or as many labels were
 /// settled as are enough, and else each task that is pending in what is settled runs once.
 pub fn round<V: Site, M: Picked, R: Reactions, A: Activities>(
     alloc: Global,

@@ -1,7 +1,7 @@
 use Rattle.std.proofs.Common.{◌∙◌}
 use Rattle.std.proofs.lemmas.Result.{err_from_is_err_and}
 use Rattle.node_core.proofs.Spending.{inner_then}
-use Rattle.round_steps.proofs.rounds.step_all.Goals as goal
+use Rattle.round_steps.proofs.rounds.turn_all.Goals as goal
 
 pub parts-preserved : goal.parts-preserved
 parts-preserved g c =

@@ -1,7 +1,7 @@
 use Rattle.std.specs.Prelude.{◌≡◌, length}
 use Rattle.cell_frames.specs.Joined.{StoreView}
 use Rattle.world_steps.specs.Cells.{AllJoined}
-use Rattle.round_steps.proofs.rounds.step_all.Given as goal
+use Rattle.round_steps.proofs.rounds.take_in_all.Given as goal
 
 -- cells stay joined
 abbrev pub invariant-parts : goal.invariant-parts
