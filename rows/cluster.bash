@@ -231,6 +231,31 @@ through_cluster() {
     env "$@" LD_PRELOAD="$work/calls.so" "$program" "$work/d" run --nodes 2 >"$work/stdout" 2>"$work/stderr"
 }
 
+# Partitions don't wait for each other in vain: files that are made safe together are one wait, and what a run writes once it has said something
+# takes at most 13 waits for 16 sums by 16 clients, over few partitions and over many.
+trial_cluster_waits() {
+    local count n waits
+    fresh d
+    through_cluster
+    for count in 4 32; do
+        fresh d
+        for n in $(seq 0 319); do
+            printf '{"client":"c%d","n":%d,"start":"Sum/%d"}\n' $((n % 16)) $((2 * n + 1)) "$n"
+            printf '{"client":"c%d","n":%d,"wait":"Sum/%d"}\n' $((n % 16)) $((2 * n + 2)) "$n"
+        done >"$work/d/requests.jsonl"
+        rm -f -- "$work/calls"
+        env CALLS_LOG="$work/calls" LD_PRELOAD="$work/calls.so" "$program" "$work/d" run --partitions "$count" --batch 64 >"$work/stdout" 2>"$work/stderr"
+        same "$count partitions: status" 0 $?
+        same "$count partitions: lines" 640 "$(wc -l <"$work/stdout")"
+        waits=$(awk '
+            $1 == "print" { said = 1 }
+            said && $1 == "sync" && last != "sync" { waits++ }
+            $1 == "sync" || $1 == "write" || $1 == "print" { last = $1 }
+            END { print waits + 0 }' "$work/calls")
+        { [ "$waits" -gt 20 ] && [ "$waits" -le 260 ]; } && ok || wrong "$count partitions: $waits waits"
+    done
+}
+
 # Each call in turn fails: the run ends with its fault, says only what is committed, and the next one goes on from there.
 trial_cluster_calls_fail() {
     local name n status wanted

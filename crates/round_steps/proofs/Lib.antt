@@ -1,4 +1,5 @@
 pub mod Counts
 pub mod Goes
 mod Names
+pub mod Inner
 pub mod Queues
